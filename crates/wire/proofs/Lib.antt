@@ -1,0 +1,3 @@
+pub mod Sign
+pub mod Le
+pub mod Store

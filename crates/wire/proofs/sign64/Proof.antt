@@ -1,0 +1,31 @@
+-- `sign64` is two's complement: the upper half of the words are the negative numbers.
+use mathlib.Core.Path.{refl}
+use Prim.Native.Nat.{_-_}
+use native.Mathlib.Omega.{arith}
+use borrow.Author.Needs.{needs}
+use mir.Syntax.{w64}
+use Rattle.wire.proofs.Sign.{flip-fits, high}
+use Rattle.wire.proofs.sign64.Statement.{statement}
+use Rattle.wire.proofs.sign64.Tie as tie
+
+cast-result : tie.Need-cast-result
+cast-result c = search needs
+
+sub-result : tie.Need-sub-result
+sub-result c = search needs
+
+cast-result-2 : tie.Need-cast-result-2
+cast-result-2 c = search needs
+
+sub-result-2 : tie.Need-sub-result-2
+sub-result-2 c = flip-fits w64 (18446744073709551615 - c .before .args .x) (omega (arith, c .before .fits .x))
+
+returns : tie.Need-returns
+returns c = search needs
+
+returns-2 : tie.Need-returns-2
+returns-2 c = high w64 18446744073709551615 (c .before .args .x) refl (omega (arith, c .before .fits .x)) (c .if1 .left)
+
+pub sign64-spec : {M : Type 1} → statement M
+sign64-spec =
+    tie.close (tie.spec cast-result sub-result cast-result-2 sub-result-2 returns returns-2)

@@ -1,0 +1,3 @@
+pub mod Pick
+pub mod Le
+pub mod Number
