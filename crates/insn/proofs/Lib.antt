@@ -1,0 +1,5 @@
+pub mod Table
+pub mod Forms
+pub mod Widths
+pub mod Pieces
+pub mod RoundTrip

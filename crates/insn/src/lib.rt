@@ -1,0 +1,183 @@
+// One eBPF instruction: its fields, its 8 bytes, its opcodes.
+pub mod form;
+
+use ir::BinaryOp;
+ghost use mathlib.Core.Path.{_≡_};
+ghost use Prim.Native.Nat.{_<_};
+ghost use Rattle.wire.specs.Le.{store};
+ghost use Rattle.insn.specs.Layout.{bytesOf, insnAt, decoded, encodedAnswer, encodedBytes};
+ghost use Rattle.insn.specs.Rfc.{ALU64, LDX, STX, K, X, operationOf, aluByte};
+ghost use Rattle.insn.specs.Form.{memCode};
+
+pub struct Insn {
+    pub code: u8,
+    pub dst: u8,
+    pub src: u8,
+    pub off: i16,
+    pub imm: i32,
+}
+
+pub const R0: u8 = 0;
+
+pub const R1: u8 = 1;
+
+pub const R2: u8 = 2;
+
+pub const R3: u8 = 3;
+
+pub const R4: u8 = 4;
+
+pub const R6: u8 = 6;
+
+pub const R10: u8 = 10;
+
+pub const BPF_LD_DW_IMM: u8 = 0x18;
+
+pub const BPF_CALL: u8 = 0x85;
+
+pub const BPF_EXIT: u8 = 0x95;
+
+pub const BPF_JA: u8 = 0x05;
+
+pub const BPF_JEQ_IMM: u8 = 0x15;
+
+pub const BPF_JNE_IMM: u8 = 0x55;
+
+pub const BPF_MOV64_IMM: u8 = 0xb7;
+
+pub const BPF_MOV64_REG: u8 = 0xbf;
+
+// ---- 8 bytes and back
+
+impl Insn {
+    pub fn to_le_bytes(self) -> [u8; 8]
+        ensures { λ r. ⌜ r ≡ bytesOf self ⌝ }
+    {
+        let mut out = [0u8; 8];
+        put_insn(&mut out, 0, self);
+        out
+    }
+}
+
+// The instruction whose 8 bytes begin at a byte of the code; what lies past the end reads as 0.
+pub fn insn_at(b: &[u8], at: usize) -> Insn
+    ensures { λ r. ⌜ r ≡ insnAt (now (b .entry)) at ⌝ }
+{
+    if b.len() < at {
+        return Insn {
+            code: 0,
+            dst: 0,
+            src: 0,
+            off: 0,
+            imm: 0,
+        };
+    }
+    let part = &b[at..];
+    let registers = wire::get_u8(part, 1);
+    Insn {
+        code: wire::get_u8(part, 0),
+        dst: registers % 16,
+        src: registers / 16,
+        off: wire::get_i16(part, 2),
+        imm: wire::get_i32(part, 4),
+    }
+}
+
+// The instruction's 8 bytes written from a byte of the code on; nothing where they do not lie whole in it.
+pub fn put_insn(b: &mut [u8], at: usize, i: Insn)
+    ensures { λ _. ⌜ now (b .exit) ≡ store (now (b .entry)) at (bytesOf i) ⌝ }
+{
+    if b.len() < 8 {
+        return;
+    }
+    if b.len() - 8 < at {
+        return;
+    }
+    wire::put_u8(b, at, i.code);
+    wire::put_u8(b, at + 1, i.dst % 16 + 16 * (i.src % 16));
+    wire::put_i16(b, at + 2, i.off);
+    wire::put_i32(b, at + 4, i.imm);
+}
+
+pub enum Decoded {
+    Is(Insn),
+    NotEight,
+}
+
+pub fn decode(b: &[u8]) -> Decoded
+    ensures { λ r. ⌜ r ≡ decoded (now (b .entry)) ⌝ }
+{
+    if b.len() == 8 {
+        return Decoded::Is(insn_at(b, 0));
+    }
+    Decoded::NotEight
+}
+
+pub enum Encoded {
+    Done,
+    NotEight,
+}
+
+pub fn encode(i: Insn, b: &mut [u8]) -> Encoded
+    ensures { λ r. ⌜ r ≡ encodedAnswer (now (b .entry)) ⌝ }
+    ensures { λ _. ⌜ now (b .exit) ≡ encodedBytes i (now (b .entry)) ⌝ }
+{
+    if b.len() == 8 {
+        put_insn(b, 0, i);
+        return Encoded::Done;
+    }
+    Encoded::NotEight
+}
+
+// ---- opcodes
+
+pub fn alu64_imm(op: BinaryOp) -> u8
+    ensures { λ r. ⌜ r ≡ aluByte ALU64 K (operationOf op) ⌝ }
+{
+    match op {
+        BinaryOp::Add => 0x07,
+        BinaryOp::Sub => 0x17,
+        BinaryOp::Mul => 0x27,
+        BinaryOp::Div => 0x37,
+        BinaryOp::Shl => 0x67,
+        BinaryOp::Shr => 0x77,
+        BinaryOp::Mod => 0x97,
+    }
+}
+
+pub fn alu64_reg(op: BinaryOp) -> u8
+    ensures { λ r. ⌜ r ≡ aluByte ALU64 X (operationOf op) ⌝ }
+{
+    alu64_imm(op) + 0x08
+}
+
+// The opcode of a load or store of so many bytes.
+pub enum MemCode {
+    Code(u8),
+    Unsupported,
+}
+
+fn mem(class: u8, bytes: u8) -> MemCode
+    requires { ⌜ class < 8 ⌝ }
+    ensures { λ r. ⌜ r ≡ memCode class bytes ⌝ }
+{
+    match bytes {
+        1 => MemCode::Code(class + 0x70),
+        2 => MemCode::Code(class + 0x68),
+        4 => MemCode::Code(class + 0x60),
+        8 => MemCode::Code(class + 0x78),
+        _ => MemCode::Unsupported,
+    }
+}
+
+pub fn ldx_mem(bytes: u8) -> MemCode
+    ensures { λ r. ⌜ r ≡ memCode LDX bytes ⌝ }
+{
+    mem(1, bytes)
+}
+
+pub fn stx_mem(bytes: u8) -> MemCode
+    ensures { λ r. ⌜ r ≡ memCode STX bytes ⌝ }
+{
+    mem(3, bytes)
+}

@@ -1,0 +1,46 @@
+//! The library under test: the one place that knows its C interface.
+
+use crate::backend::BackEnd;
+
+extern "C" {
+    /// `answer` holds three numbers: the refusal's number or 0, then (place, value) or (slots,
+    /// relocations).
+    fn shurtenbo_compile(
+        unit: *const u8,
+        unit_len: usize,
+        code: *mut u8,
+        code_len: usize,
+        relocs: *mut u32,
+        relocs_len: usize,
+        answer: *mut i64,
+        answer_len: usize,
+    );
+}
+
+pub struct Shurtenbo;
+
+impl BackEnd for Shurtenbo {
+    fn name(&self) -> &'static str {
+        "shurtenbo"
+    }
+
+    fn compile(&self, unit: &[u8], code: &mut [u8], relocs: &mut [u32]) -> [i64; 3] {
+        // A number that no answer holds, so that one left unwritten shows.
+        let mut answer = [i64::MIN; 3];
+        // SAFETY: each pointer comes with the length of the slice it was taken from; the library
+        // keeps none of them.
+        unsafe {
+            shurtenbo_compile(
+                unit.as_ptr(),
+                unit.len(),
+                code.as_mut_ptr(),
+                code.len(),
+                relocs.as_mut_ptr(),
+                relocs.len(),
+                answer.as_mut_ptr(),
+                answer.len(),
+            );
+        }
+        answer
+    }
+}
