@@ -104,15 +104,15 @@ def map_numbers():
         for number, count in ((0, 0), (0, 1), (1, 1), (4, 5), (5, 5), (63, 64), (64, 64)):
             yield case(number, count)
         # A map count above 64 is taken as it is.
-        for number, count in ((64, 65), (65, 65), (65535, 65536), (2**31 - 1, 2**32 - 1)):
+        for number, count in ((64, 65), (65, 65), (65534, 65535), (65535, 65535), (2**31 - 1, 65535)):
             yield case(number, count)
-        yield case(-1 if field == "offset" else 2**32 - 1, 64)
+        if field == "number":
+            yield case(2**32 - 1, 64)
         # 5 before 6.
         yield case(2, 2, room=0)
     # RingBufReserve's map is its offset; its number is the size.
     yield Case("RingBufReserve, map 0 of 1, size 9", Instruction(3, RING_BUF_RESERVE, offset=0, number=9), 1, 20)
     yield Case("RingBufReserve, map 9 of 1, size 0", Instruction(3, RING_BUF_RESERVE, offset=9, number=0), 1, 20)
-    yield Case("RingBufReserve, the lowest offset", Instruction(3, RING_BUF_RESERVE, offset=-2**31), 64, 20)
 
 
 def terminators():

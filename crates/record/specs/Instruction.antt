@@ -1,0 +1,38 @@
+-- An instruction's payload: u32 result, u8 opcode, u8 small, u8 operand count k (0 to 8), u8 zero, i32 offset, u32 number, k operands.
+use Prim.Native.Nat.{ℕ, _+_, _*_}
+use mathlib.Core.Bool.{Bool, true, false}
+use mathlib.Core.List.{List}
+use lib.Dec.{eqb, leb}
+use mir.Syntax.{w32}
+use Rattle.wire.specs.Pick.{pick, both}
+use Rattle.wire.specs.Le.{byteAt, unsignedAt, signedAt}
+use Rattle.ir.specs.declared.operands.Operands.the-variants.{Zero}
+use Rattle.record.specs.Operand.{operandsAt}
+use Rattle.record.specs.Opcode.{opcodeOf}
+use Rattle.record.specs.declared.operand.ReadOperands.{ReadOperands}
+use Rattle.record.specs.declared.operand.ReadOperands.the-variants as L
+use Rattle.record.specs.declared.opcode.Fields.{Fields}
+use Rattle.record.specs.declared.opcode.ReadOpcode.{ReadOpcode}
+use Rattle.record.specs.declared.opcode.ReadOpcode.the-variants as C
+use Rattle.record.specs.declared.instruction.ReadInstruction.{ReadInstruction}
+use Rattle.record.specs.declared.instruction.ReadInstruction.the-variants as I
+
+unfoldable pub fieldsAt : List ℕ → ℕ → Fields
+fieldsAt b at = record { code = byteAt b (at + 4); small = byteAt b (at + 5); offset = signedAt w32 b (at + 8); number = unsignedAt w32 b (at + 12) }
+
+unfoldable pub countAt : List ℕ → ℕ → ℕ
+countAt b at = byteAt b (at + 6)
+
+unfoldable pub joined : ℕ → ReadOpcode → ReadOperands → ReadInstruction
+joined result (C.Is o) (L.Is l) = I.Is (record { result = result; opcode = o; operands = l })
+joined result (C.Is o) L.Broken = I.Broken
+joined result C.Broken (L.Is l) = I.Broken
+joined result C.Broken L.Broken = I.Broken
+
+-- the payload of len bytes at a byte is as long as its operand count asks, and has its zero
+unfoldable pub sized : List ℕ → ℕ → ℕ → Bool
+sized b at len = both (leb 16 len) (both (leb (countAt b at) 8) (both (eqb len (16 + 9 * countAt b at)) (eqb (byteAt b (at + 7)) 0)))
+
+unfoldable pub instructionAt : List ℕ → ℕ → ℕ → ℕ → ReadInstruction
+instructionAt b at len maps =
+    pick (sized b at len) (joined (unsignedAt w32 b at) (opcodeOf (fieldsAt b at) maps) (operandsAt Zero b (at + 16) (countAt b at))) I.Broken

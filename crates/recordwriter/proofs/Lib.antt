@@ -1,0 +1,8 @@
+pub mod Length
+pub mod Pieces
+pub mod Valid
+pub mod Holds
+pub mod OpcodeBack
+pub mod ReadBack
+pub mod WriteBack
+pub mod RoundTrip

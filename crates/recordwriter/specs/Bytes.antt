@@ -1,0 +1,89 @@
+-- A record's bytes from its value.
+use Prim.Native.Nat.{ℕ}
+use mathlib.Core.List.{List, [], _∷_, _++_}
+use lib.IntN.{pos}
+use lib.ListN.{length, take, drop}
+use mir.Syntax.{w16, w32, w64}
+use Rattle.wire.specs.Le.{unsignedBytes, signedBytes}
+use Rattle.ir.specs.Operands.{listOf}
+use Rattle.ir.specs.declared.BinaryOp.{BinaryOp}
+use Rattle.ir.specs.declared.BinaryOp.the-variants.{Add, Sub, Mul, Div, Mod, Shl, Shr}
+use Rattle.ir.specs.declared.Operand.{Operand}
+use Rattle.ir.specs.declared.Operand.the-variants.{Var, Immediate}
+use Rattle.ir.specs.declared.Opcode.{Opcode}
+use Rattle.ir.specs.declared.Opcode.the-variants as C
+use Rattle.ir.specs.declared.Instruction.{Instruction}
+use Rattle.ir.specs.declared.Terminator.{Terminator}
+use Rattle.ir.specs.declared.Terminator.the-variants.{Return, Jump, Branch}
+use Rattle.record.specs.declared.Record.{Record}
+use Rattle.record.specs.declared.Record.the-variants as R
+use Rattle.record.specs.declared.opcode.Fields.{Fields}
+
+-- tag 0, u32 variable, four zero bytes; or tag 1, i64 immediate
+unfoldable pub operandBytes : Operand → List ℕ
+operandBytes (Var v) = 0 ∷ unsignedBytes w32 v ++ unsignedBytes w32 0
+operandBytes (Immediate z) = 1 ∷ signedBytes w64 z
+
+unfoldable pub operandsBytes : List Operand → List ℕ
+operandsBytes [] = []
+operandsBytes (o ∷ os) = operandBytes o ++ operandsBytes os
+
+-- Binary's small
+unfoldable pub smallOf : BinaryOp → ℕ
+smallOf Add = 0
+smallOf Sub = 1
+smallOf Mul = 2
+smallOf Div = 3
+smallOf Mod = 4
+smallOf Shl = 5
+smallOf Shr = 6
+
+-- an opcode's number, small, offset and number; what it does not use is zero
+unfoldable pub fieldsOf : Opcode → Fields
+fieldsOf (C.HelperCall id) = record { code = 1; small = 0; offset = pos 0; number = id }
+fieldsOf C.LoadKey = record { code = 2; small = 0; offset = pos 0; number = 0 }
+fieldsOf (C.Store size) = record { code = 3; small = size; offset = pos 0; number = 0 }
+fieldsOf (C.LoadCtx offset size) = record { code = 4; small = size; offset = offset; number = 0 }
+fieldsOf (C.LoadPacket offset size) = record { code = 5; small = size; offset = offset; number = 0 }
+fieldsOf (C.CopyCtxToMem offset size) = record { code = 6; small = 0; offset = offset; number = size }
+fieldsOf C.NullCheck = record { code = 7; small = 0; offset = pos 0; number = 0 }
+fieldsOf (C.Binary op) = record { code = 8; small = smallOf op; offset = pos 0; number = 0 }
+fieldsOf (C.CallMap m) = record { code = 9; small = 0; offset = pos 0; number = m }
+fieldsOf (C.UpdateMap m) = record { code = 10; small = 0; offset = pos 0; number = m }
+fieldsOf (C.RingBufReserve m size) = record { code = 11; small = 0; offset = pos m; number = size }
+fieldsOf (C.RingBufSubmit m) = record { code = 12; small = 0; offset = pos 0; number = m }
+
+-- u32 result, u8 opcode, u8 small, u8 operand count, u8 zero, i32 offset, u32 number, the operands
+unfoldable pub instructionBytes : ℕ → Fields → List Operand → List ℕ
+instructionBytes result f os =
+    unsignedBytes w32 result
+    ++ (f .code ∷ f .small ∷ length os ∷ 0 ∷ [])
+    ++ signedBytes w32 (f .offset)
+    ++ unsignedBytes w32 (f .number)
+    ++ operandsBytes os
+
+-- u8 form, then 0 return, operand; 1 jump, u32 target; 2 branch, condition operand, u32 true, u32 false
+unfoldable pub terminatorBytes : Terminator → List ℕ
+terminatorBytes (Return o) = 0 ∷ operandBytes o
+terminatorBytes (Jump target) = 1 ∷ unsignedBytes w32 target
+terminatorBytes (Branch o to other) = 2 ∷ operandBytes o ++ unsignedBytes w32 to ++ unsignedBytes w32 other
+
+-- a map's name lies in the bytes `names`, where its record says
+unfoldable pub payloadBytes : List ℕ → Record → List ℕ
+payloadBytes names (R.Head h) = unsignedBytes w16 (h .edition) ++ unsignedBytes w16 (h .maps) ++ unsignedBytes w32 (h .blocks)
+payloadBytes names (R.Map start len) = take len (drop start names)
+payloadBytes names (R.Block id) = unsignedBytes w32 id
+payloadBytes names (R.Instruction i) = instructionBytes (i .result) (fieldsOf (i .opcode)) (listOf (i .operands))
+payloadBytes names (R.Terminator t) = terminatorBytes t
+
+unfoldable pub kindOf : Record → ℕ
+kindOf (R.Head h) = 1
+kindOf (R.Map start len) = 2
+kindOf (R.Block id) = 3
+kindOf (R.Instruction i) = 4
+kindOf (R.Terminator t) = 5
+
+-- a u16 payload length, a u16 kind, then the payload
+unfoldable pub recordBytes : List ℕ → Record → List ℕ
+recordBytes names r =
+    unsignedBytes w16 (length (payloadBytes names r)) ++ unsignedBytes w16 (kindOf r) ++ payloadBytes names r

@@ -1,0 +1,4 @@
+pub mod Bytes
+pub mod Written
+pub mod Size
+pub mod Typed

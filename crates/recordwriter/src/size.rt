@@ -1,0 +1,106 @@
+// Whether a record's value keeps the rules, and how many bytes its payload has.
+use ir::Opcode;
+use ir::Terminator;
+use ir::operands;
+use record::Head;
+use record::Record;
+ghost use mathlib.Core.Path.{_≡_};
+ghost use Prim.Native.Nat.{_+_};
+ghost use lib.Dec.{leb};
+ghost use lib.ListN.{length};
+ghost use Rattle.wire.specs.Pick.{both};
+ghost use Rattle.record.specs.Payload.{headOk};
+ghost use Rattle.recordwriter.specs.Bytes.{terminatorBytes};
+ghost use Rattle.recordwriter.specs.Written.{mapOk};
+ghost use Rattle.recordwriter.specs.Size.{sizeOf};
+
+// The payload's bytes, or a value that breaks the rules.
+pub enum Size {
+    Bytes(u16),
+    Broken,
+}
+
+fn head_ok(h: Head) -> bool
+    ensures { λ r. ⌜ r ≡ headOk h ⌝ }
+{
+    if h.edition == 1 {
+        if h.maps <= 64 {
+            return h.blocks <= 1024;
+        }
+    }
+    false
+}
+
+fn map_ok(o: Opcode, maps: u16) -> bool
+    ensures { λ r. ⌜ r ≡ mapOk maps o ⌝ }
+{
+    match o {
+        Opcode::HelperCall { id: _ } => true,
+        Opcode::LoadKey => true,
+        Opcode::Store { size: _ } => true,
+        Opcode::LoadCtx { offset: _, size: _ } => true,
+        Opcode::LoadPacket { offset: _, size: _ } => true,
+        Opcode::CopyCtxToMem { offset: _, size: _ } => true,
+        Opcode::NullCheck => true,
+        Opcode::Binary { op: _ } => true,
+        Opcode::CallMap { map } => map < (maps as u32),
+        Opcode::UpdateMap { map } => map < (maps as u32),
+        Opcode::RingBufReserve { map, size: _ } => map < (maps as u32),
+        Opcode::RingBufSubmit { map } => map < (maps as u32),
+    }
+}
+
+// Whether len bytes from start on lie in total bytes, and are no more than a name may have.
+fn name_ok(start: usize, len: usize, total: usize) -> bool
+    ensures { λ r. ⌜ r ≡ both (leb (start + len) total) (leb len 64) ⌝ }
+{
+    if len <= total {
+        if start <= total - len {
+            return len <= 64;
+        }
+    }
+    false
+}
+
+fn terminator_size(t: Terminator) -> u16
+    ensures { λ r. ⌜ r ≡ length (terminatorBytes t) ⌝ }
+{
+    match t {
+        Terminator::Return(_) => 10,
+        Terminator::Jump(_) => 5,
+        Terminator::Branch {
+            condition: _,
+            true_block: _,
+            false_block: _,
+        } => 18,
+    }
+}
+
+pub(crate) fn size_of(value: Record, names: &[u8], maps: u16) -> Size
+    ensures { λ r. ⌜ r ≡ sizeOf maps (now (names .entry)) value ⌝ }
+{
+    match value {
+        Record::Head(h) => {
+            if head_ok(h) {
+                return Size::Bytes(8);
+            }
+            Size::Broken
+        }
+        Record::Map { start, len } => {
+            if name_ok(start, len, names.len()) {
+                return Size::Bytes(len as u16);
+            }
+            Size::Broken
+        }
+        Record::Block(_) => Size::Bytes(4),
+        Record::Instruction(i) => {
+            let o = i.opcode;
+            if map_ok(o, maps) {
+                let list = i.operands;
+                return Size::Bytes(16 + 9 * (operands::count(list) as u16));
+            }
+            Size::Broken
+        }
+        Record::Terminator(t) => Size::Bytes(terminator_size(t)),
+    }
+}

@@ -1,0 +1,10 @@
+pub mod Choice
+pub mod Run
+pub mod Blocks
+pub mod Places
+pub mod Sizes
+pub mod Same
+pub mod MapLaws
+pub mod Whole
+pub mod Units
+pub mod Theorems

@@ -1,0 +1,30 @@
+-- `on_record` goes on by the record that was read, or hands the refusal on.
+use borrow.Author.Needs.{needs}
+use Rattle.unitfile.specs.Inner.{faultOf}
+use Rattle.unitfile.specs.Records.{onRecord}
+use Rattle.unitfile.proofs.walk.on_record.Statement.{statement}
+use Rattle.unitfile.proofs.walk.on_record.Tie as tie
+
+enum-known-read : tie.Need-enum-known-read
+enum-known-read c = search needs
+
+enum-told : tie.Need-enum-told
+enum-told c = search needs
+
+fault-requires : tie.Need-fault-requires
+fault-requires c κs = search needs
+
+returns : tie.Need-returns
+unfolding onRecord faultOf
+returns c = simp (c .fault .ensures, c .before .enum-told .given .1)
+
+moved-requires : tie.Need-moved-requires
+moved-requires c κs = search needs
+
+returns-2 : tie.Need-returns-2
+unfolding onRecord
+returns-2 c = simp (c .moved .ensures, c .before .before .read .given .1)
+
+pub on-record-spec : {M : Type 1} → statement M
+on-record-spec =
+    tie.close (tie.spec enum-known-read enum-told fault-requires returns moved-requires returns-2)

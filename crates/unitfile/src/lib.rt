@@ -1,0 +1,116 @@
+// The whole unit file.
+mod names;
+mod walk;
+
+use names::HeadAt;
+use names::MapAt;
+use record::Due;
+use record::Fault;
+use record::Head;
+use record::Record;
+ghost use mathlib.Core.Path.{_≡_};
+ghost use Rattle.unitfile.specs.Records.{nextRecord};
+ghost use Rattle.unitfile.specs.Unit.{readUnit, parse};
+ghost use Rattle.unitfile.specs.MapName.{nameOf, namedOf};
+
+// Where reading stands among the blocks: at which byte, how many blocks are still due, and whether one is open.
+pub struct Cursor {
+    pub at: usize,
+    pub blocks: u32,
+    pub inside: bool,
+}
+
+// A record and the next cursor, the end of the unit, or the refusal.
+pub enum Step {
+    Go(Record, Cursor),
+    End,
+    Refused(Fault),
+}
+
+// A unit that was read whole: its head, and where its blocks begin.
+pub struct Found {
+    pub head: Head,
+    pub body: usize,
+}
+
+pub enum ReadUnit {
+    Unit(Found),
+    Refused(Fault),
+}
+
+// Whether a unit has a map of a number.
+pub enum Named {
+    Named,
+    NoSuchMap,
+    Refused(Fault),
+}
+
+// The record at a cursor, in a unit of so many maps.
+pub fn next_record(s: &[u8], maps: u16, c: Cursor) -> Step
+    ensures { λ r. ⌜ r ≡ nextRecord (now (s .entry)) maps c ⌝ }
+{
+    let at = c.at;
+    if c.inside {
+        return walk::on_record(c, record::read_record(s, at, Due::Inside, maps));
+    }
+    if c.blocks == 0 {
+        if at == s.len() {
+            return Step::End;
+        }
+        return Step::Refused(Fault::NotDue(at));
+    }
+    walk::on_record(c, record::read_record(s, at, Due::Block, maps))
+}
+
+// The whole file, read record by record.
+pub fn read_unit(s: &[u8]) -> ReadUnit
+    ensures { λ r. ⌜ r ≡ readUnit (now (s .entry)) ⌝ }
+{
+    let opened = names::open_unit(s);
+    let ReadUnit::Unit(found) = opened else {
+        return opened;
+    };
+    walk::read_blocks(s, found)
+}
+
+// The bytes of a map's name inside the unit; none for a refusal or where there is no such map.
+pub fn map_name(s: &[u8], map: u32) -> &[u8]
+    ensures { λ r. ⌜ now r ≡ nameOf (parse (now (s .entry))) map ⌝ }
+{
+    let ReadUnit::Unit(found) = read_unit(s) else {
+        return &s[0..0];
+    };
+    let head = found.head;
+    if map < head.maps as u32 {
+        let HeadAt::Is(_, first) = names::head_at(s) else {
+            return &s[0..0];
+        };
+        let MapAt::Is {
+            start,
+            len,
+            next: _,
+        } = names::map_from(s, first, map)
+        else {
+            return &s[0..0];
+        };
+        let end = start + len;
+        return &s[start..end];
+    }
+    &s[0..0]
+}
+
+// What tells a refusal and a missing map from an empty name.
+pub fn map_named(s: &[u8], map: u32) -> Named
+    ensures { λ r. ⌜ r ≡ namedOf (parse (now (s .entry))) map ⌝ }
+{
+    match read_unit(s) {
+        ReadUnit::Unit(found) => {
+            let head = found.head;
+            if map < head.maps as u32 {
+                return Named::Named;
+            }
+            Named::NoSuchMap
+        }
+        ReadUnit::Refused(f) => Named::Refused(f),
+    }
+}
