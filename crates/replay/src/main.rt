@@ -1,0 +1,10 @@
+// Replays the stored lists of data/, each case through the public functions, and prints each answer.
+mod input;
+mod output;
+mod records;
+mod units;
+
+fn main() {
+    units::replay();
+    records::replay();
+}
