@@ -2,14 +2,13 @@
 use ir::Opcode;
 use ir::Terminator;
 use ir::operands;
-use record::Head;
 use record::Record;
+use record::payload::head_ok;
 ghost use mathlib.Core.Path.{_≡_};
 ghost use Prim.Native.Nat.{_+_};
 ghost use lib.Dec.{leb};
 ghost use lib.ListN.{length};
 ghost use Rattle.wire.specs.Pick.{both};
-ghost use Rattle.record.specs.Payload.{headOk};
 ghost use Rattle.recordwriter.specs.Bytes.{terminatorBytes};
 ghost use Rattle.recordwriter.specs.Written.{mapOk};
 ghost use Rattle.recordwriter.specs.Size.{sizeOf};
@@ -18,17 +17,6 @@ ghost use Rattle.recordwriter.specs.Size.{sizeOf};
 pub enum Size {
     Bytes(u16),
     Broken,
-}
-
-fn head_ok(h: Head) -> bool
-    ensures { λ r. ⌜ r ≡ headOk h ⌝ }
-{
-    if h.edition == 1 {
-        if h.maps <= 64 {
-            return h.blocks <= 1024;
-        }
-    }
-    false
 }
 
 fn map_ok(o: Opcode, maps: u16) -> bool

@@ -1,12 +1,13 @@
 -- `put_operands` writes one operand after the other: what is left to write stays the tail.
-use Prim.Native.Nat.{_+_, _*_, _-_, _≤_}
+use Prim.Native.Nat.{suc, _+_, _*_, _≤_}
 use mathlib.Core.Path.{_≡_, refl, ap, sym, _∙_}
 use native.Mathlib.Omega.{arith}
 use borrow.Author.Needs.{needs}
 use lib.ListN.{length}
 use Rattle.wire.specs.Le.{store}
 use Rattle.ir.proofs.OperandLaws.{first-is}
-use Rattle.ir.specs.Operands.{listOf}
+use Rattle.ir.specs.Operands.{listOf, firstOf, restOf}
+use Rattle.ir.specs.declared.operands.Head.the-variants.{Is}
 use Rattle.recordwriter.specs.Bytes.{operandsBytes}
 use Rattle.recordwriter.proofs.Pieces.{operand-step, operand-end}
 use Rattle.recordwriter.proofs.operand.put_operands.Statement.{statement}
@@ -34,27 +35,35 @@ same-length : tie.Need-same-length Inv-loop μ-loop
 same-length c = c .before .before .before .loop .inv .1
 
 returns : tie.Need-returns Inv-loop μ-loop
-returns c = operand-end (c .before .before .before .loop .left) (c .before .before .before .loop .b) (c .before .before .before .loop .i) (sym (c .before .before .first .ensures) ∙ c .enum-told .given .1) ∙ c .before .before .before .loop .inv .2
+returns c =
+    let l = c .before .before .before .loop in
+    operand-end (l .left) (l .b) (l .i) (sym (c .before .before .first .ensures) ∙ c .enum-told .given .1) ∙ l .inv .2
+
+first-there : (c : tie.After-known-told Inv-loop μ-loop) → firstOf (c .before .before .before .before .loop .left) ≡ Is (c .before .o .given .0 .0)
+first-there c = sym (c .before .before .before .first .ensures) ∙ c .before .o .given .1
+
+one-more : (c : tie.After-known-told Inv-loop μ-loop) → length (listOf (c .before .before .before .before .loop .left)) ≡ suc (length (listOf (restOf (c .before .before .before .before .loop .left))))
+one-more c = ap length (first-is _ _ (first-there c))
 
 put-operand-requires : tie.Need-put-operand-requires Inv-loop μ-loop
-put-operand-requires c κs = let n = ap length (first-is (c .before .before .before .before .before .loop .left) _ (sym (c .before .before .before .before .first .ensures) ∙ c .before .before .o .given .1)) in omega arith
+put-operand-requires c κs = let n = one-more (c .before) in omega arith
 
 rest-requires : tie.Need-rest-requires Inv-loop μ-loop
 rest-requires c κs = search needs
 
 add-i : tie.Need-add-i Inv-loop μ-loop
-add-i c = let n = ap length (first-is (c .before .before .before .before .before .before .before .before .before .loop .left) _ (sym (c .before .before .before .before .before .before .before .before .first .ensures) ∙ c .before .before .before .before .before .before .o .given .1)) in omega arith
+add-i c = let n = one-more (c .before .before .before .before .before) in omega arith
 
 loop-less : tie.Need-loop-less Inv-loop μ-loop
-loop-less c = let n = ap length (first-is (c .before .before .before .before .before .before .before .before .before .loop .left) _ (sym (c .before .before .before .before .before .before .before .before .first .ensures) ∙ c .before .before .before .before .before .before .o .given .1)) in rw (c .rest .ensures) (omega arith)
+loop-less c = let n = one-more (c .before .before .before .before .before) in rw (c .rest .ensures) (omega arith)
 
 loop-again : tie.Need-loop-again Inv-loop μ-loop
 loop-again c =
-    let l = c .before .before .before .before .before .before .before .before .before .loop in
-    let f = sym (c .before .before .before .before .before .before .before .before .first .ensures) ∙ c .before .before .before .before .before .before .o .given .1 in
-    let n = ap length (first-is (l .left) _ f) in
-    let k = c .before .before .before .put-operand .kept .0 in
-    rw (c .rest .ensures) (omega arith, k ∙ l .inv .1, operand-step (l .left) _ (l .b) (l .i) f (c .before .before .before .put-operand .ensures) (l .inv .0) ∙ l .inv .2)
+    let k = c .before .before .before .before .before in
+    let l = k .before .before .before .before .loop in
+    let n = one-more k in
+    let w = c .before .before .before .put-operand in
+    rw (c .rest .ensures) (omega (arith, w .kept .0), w .kept .0 ∙ l .inv .1, operand-step (l .left) _ (l .b) (l .i) (first-there k) (w .ensures) (l .inv .0) ∙ l .inv .2)
 
 pub put-operands-spec : {M : Type 1} → statement M
 put-operands-spec =

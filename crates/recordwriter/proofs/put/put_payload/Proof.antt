@@ -21,10 +21,11 @@ enum-known-value-2 c = search needs
 put-name-requires : tie.Need-put-name-requires
 unfolding valid payloadBytes
 put-name-requires c κs =
-    let a = c .before .before .before .before .before .before .args in
-    let m = c .before .before .value2 .given .0 in
-    let n = name-told (m .0) (m .1 .0) (length (a .names .now)) (rw (c .before .before .value2 .given .1) at (c .before .before .before .before .before .before .pre .0)) in
-    (n .0, omega (arith, part-length (m .1 .0) (m .0) (a .names .now) (n .0), rw (c .before .before .value2 .given .1) at (c .before .before .before .before .before .before .pre .1)))
+    let start = c .before .before .before .before .before .before in
+    let names = start .args .names .now in
+    let m = c .before .before .value2 .given in
+    let n = name-told (m .0 .0) (m .0 .1 .0) (length names) (rw (m .1) at (start .pre .0)) in
+    (n .0, omega (arith, part-length (m .0 .1 .0) (m .0 .0) names (n .0), rw (m .1) at (start .pre .1)))
 
 enum-known-value-3 : tie.Need-enum-known-value-3
 enum-known-value-3 c = search needs
@@ -37,7 +38,10 @@ enum-known-value-4 c = search needs
 
 put-instruction-requires : tie.Need-put-instruction-requires
 unfolding valid payloadBytes
-put-instruction-requires c κs = (rw (c .before .before .value4 .given .1) at (c .before .before .before .before .before .before .pre .0), rw (instruction-length) at (rw (c .before .before .value4 .given .1) at (c .before .before .before .before .before .before .pre .1)))
+put-instruction-requires c κs =
+    let start = c .before .before .before .before .before .before in
+    let e = c .before .before .value4 .given .1 in
+    (rw e at (start .pre .0), rw instruction-length at (rw e at (start .pre .1)))
 
 enum-known-value-5 : tie.Need-enum-known-value-5
 enum-known-value-5 c = search needs

@@ -25,10 +25,14 @@ same-length c = search needs
 returns : tie.Need-returns
 unfolding recordBytes
 returns c =
-    let a = c .before .before .before .before .before .before .before .before .before .before .before .before .before .before .before .args in
-    let n = c .before .before .before .before .before .before .before .before .before .before .before .before .before .before .before .pre .1 .0 in
-    let p = number w16 (a .n) (c .before .before .before .before .before .before .before .before .before .before .before .put-u16 .ensures) ▸ number w16 _ (c .before .before .before .before .before .before .put-u162 .ensures) ▸ piece (payloadBytes (a .names .now) (a .value)) (c .before .before .put-payload .ensures) in
-    rw (← n, ← c .before .before .before .before .before .before .before .kind .ensures) (p .left (omega arith))
+    let kind = c .before .before .before .before .before .before in
+    let length = kind .before .before .before .before .before in
+    let start = length .before .before .before .before in
+    let a = start .args in
+    rw (← start .pre .1 .0, ← kind .before .kind .ensures)
+    ((number w16 (a .n) (length .put-u16 .ensures)
+    ▸ number w16 _ (kind .put-u162 .ensures)
+    ▸ piece (payloadBytes (a .names .now) (a .value)) (c .before .before .put-payload .ensures)) .left (omega arith))
 
 pub put-record-spec : {M : Type 1} → statement M
 put-record-spec =

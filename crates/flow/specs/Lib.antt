@@ -1,0 +1,6 @@
+pub mod Node
+pub mod Reached
+pub mod Computed
+pub mod Linked
+pub mod Keys
+pub mod Way

@@ -1,0 +1,165 @@
+// The flow of a unit's blocks: which are emitted, and which block a target means.
+ghost use mathlib.Core.Path.{_≡_};
+ghost use Prim.Native.Nat.{_+_, _*_, _≤_, _<_};
+ghost use lib.ListN.{length, take, replicate};
+ghost use lib.Seq.{sets};
+ghost use Rattle.sort.specs.Order.{Ascending};
+ghost use Rattle.flow.specs.Linked.{numberFrom, numbers, linkedTargets, linkedFlags};
+ghost use Rattle.flow.specs.Keys.{keysFrom, Keyed, Cut};
+ghost use Rattle.flow.specs.Way.{outs, Marked, marksOf};
+
+// The keys of the first n blocks: id * 1024 + number.
+fn put_keys(n: usize, ids: &[u32], keys: &mut [u64])
+    requires { ⌜ (n ≤ 1024) × (n ≤ length (now ids)) × (n ≤ length (now keys)) ⌝ }
+    ensures { λ _. ⌜ now (keys .exit) ≡ sets (now (keys .entry)) 0 (keysFrom 0 (take n (now (ids .entry)))) ⌝ }
+{
+    let mut i = 0;
+    while i < n {
+        keys[i] = (ids[i] as u64) * 1024 + (i as u64);
+        i += 1;
+    }
+}
+
+// The sorted keys of the first n blocks.
+fn sort_keys(n: usize, ids: &[u32], keys: &mut [u64; 1024])
+    requires { ⌜ (n ≤ 1024) × (length (now ids) ≡ 1024) ⌝ }
+    ensures { λ _. ⌜ Keyed n (now (ids .entry)) (now (keys .exit)) ⌝ }
+{
+    put_keys(n, ids, keys);
+    sort::sort(keys, n);
+}
+
+// How many of the first n keys, which ascend, are below a bound.
+fn below(keys: &[u64], n: usize, bound: u64) -> usize
+    requires { ⌜ (n ≤ length (now keys)) × Ascending (take n (now keys)) ⌝ }
+    ensures { λ r. ⌜ Cut (take n (now (keys .entry))) bound r ⌝ }
+{
+    let mut lo = 0;
+    let mut hi = n;
+    while lo < hi {
+        let mid = lo + (hi - lo) / 2;
+        if keys[mid] < bound {
+            lo = mid + 1;
+        } else {
+            hi = mid;
+        }
+    }
+    lo
+}
+
+// The number of the last of the first n blocks that has an id, 1,024 for none.
+fn find(n: usize, ids: &[u32], keys: &[u64], id: u32) -> u32
+    requires { ⌜ Keyed n (now ids) (now keys) ⌝ }
+    ensures { λ r. ⌜ r ≡ numberFrom 0 (take n (now (ids .entry))) id ⌝ }
+{
+    let past = below(keys, n, (id as u64) * 1024 + 1024);
+    if past == 0 {
+        return 1024;
+    }
+    let number = (keys[past - 1] % 1024) as usize;
+    if ids[number] == id {
+        return number as u32;
+    }
+    1024
+}
+
+// Each of the n blocks' two targets becomes the number of the block it means.
+fn put_numbers(n: usize, ids: &[u32], keys: &[u64], targets: &mut [u32])
+    requires { ⌜ Keyed n (now ids) (now keys) × (2 * n ≤ length (now targets)) ⌝ }
+    ensures { λ _. ⌜ now (targets .exit) ≡ sets (now (targets .entry)) 0 (numbers (take n (now (ids .entry))) (take (2 * n) (now (targets .entry)))) ⌝ }
+{
+    let mut j = 0;
+    while j < 2 * n {
+        targets[j] = find(n, ids, keys, targets[j]);
+        j += 1;
+    }
+}
+
+// Block b's targets go onto the pending list, of which k are in use.
+fn push_targets(b: usize, counts: &[u8], targets: &[u32], pending: &mut [u32], k: usize) -> usize
+    requires { ⌜ (b < length (now counts)) × (2 * b + 1 < length (now targets)) × (k + 1 < length (now pending)) ⌝ }
+    ensures { λ r. ⌜ r ≡ k + length (outs (now (counts .entry)) (now (targets .entry)) b) ⌝ }
+    ensures { λ r. ⌜ now (pending .exit) ≡ sets (now (pending .entry)) k (outs (now (counts .entry)) (now (targets .entry)) b) ⌝ }
+{
+    let count = counts[b];
+    if count == 0 {
+        return k;
+    }
+    pending[k] = targets[2 * b];
+    if count == 1 {
+        return k + 1;
+    }
+    pending[k + 1] = targets[2 * b + 1];
+    k + 2
+}
+
+fn wide(number: u32) -> usize
+    ensures { λ r. ⌜ r ≡ number ⌝ }
+{
+    number as usize
+}
+
+// Marks the blocks that are reached from the first: takes a pending one, skips it if it is marked or there is none, marks it and adds its targets.
+fn reach(first: u32, counts: &[u8], targets: &[u32], marks: &mut [u8])
+    requires { ⌜ (length (now counts) ≡ 1024) × (length (now targets) ≡ 2048) × (now marks ≡ replicate 1024 0) ⌝ }
+    ensures { λ _. ⌜ Marked first (now (counts .entry)) (now (targets .entry)) (now (marks .exit)) ⌝ }
+{
+    let mut pending = [first; 2049];
+    let mut k = 1;
+    while 0 < k {
+        k -= 1;
+        let b = wide(pending[k]);
+        if b < 1024 {
+            if marks[b] == 0 {
+                marks[b] = 1;
+                k = push_targets(b, counts, targets, &mut pending, k);
+            }
+        }
+    }
+}
+
+// A block is emitted where the last block with its id is marked.
+fn put_flags(n: usize, ids: &[u32], keys: &[u64], marks: &[u8], emitted: &mut [u8])
+    requires { ⌜ Keyed n (now ids) (now keys) × (length (now marks) ≡ 1024) × (n ≤ length (now emitted)) ⌝ }
+    ensures { λ _. ⌜ now (emitted .exit) ≡ sets (now (emitted .entry)) 0 (marksOf (now (marks .entry)) (take n (now (ids .entry))) (take n (now (ids .entry)))) ⌝ }
+{
+    let mut i = 0;
+    while i < n {
+        let last = find(n, ids, keys, ids[i]) as usize;
+        emitted[i] = marks[last];
+        i += 1;
+    }
+}
+
+fn link_front(n: usize, ids: &[u32], counts: &[u8], targets: &mut [u32], emitted: &mut [u8])
+    requires { ⌜ (n ≤ 1024) × (length (now ids) ≡ 1024) × (length (now counts) ≡ 1024) × (length (now targets) ≡ 2048) × (length (now emitted) ≡ 1024) ⌝ }
+    ensures { λ _. ⌜ now (targets .exit) ≡ linkedTargets n (now (ids .entry)) (now (targets .entry)) ⌝ }
+    ensures { λ _. ⌜ now (emitted .exit) ≡ linkedFlags n (now (ids .entry)) (now (counts .entry)) (now (targets .entry)) (now (emitted .entry)) ⌝ }
+{
+    let mut keys = [0u64; 1024];
+    sort_keys(n, ids, &mut keys);
+    put_numbers(n, ids, &keys, targets);
+    let first = find(n, ids, &keys, ids[0]);
+    let mut marks = [0u8; 1024];
+    reach(first, counts, targets, &mut marks);
+    put_flags(n, ids, &keys, &marks, emitted);
+}
+
+// For the first n blocks: ids; how many targets each has (0, 1, or 2 for more); their ids at 2i and 2i + 1.
+// Each target's id becomes the number of the last block that has it, 1,024 for none; emitted becomes 1 for each block whose id is reached, else 0.
+pub fn link(
+    n: usize,
+    ids: &[u32; 1024],
+    counts: &[u8; 1024],
+    targets: &mut [u32; 2048],
+    emitted: &mut [u8; 1024],
+)
+    ensures { λ _. ⌜ now (targets .exit) ≡ linkedTargets n (now (ids .entry)) (now (targets .entry)) ⌝ }
+    ensures { λ _. ⌜ now (emitted .exit) ≡ linkedFlags n (now (ids .entry)) (now (counts .entry)) (now (targets .entry)) (now (emitted .entry)) ⌝ }
+{
+    if n < 1024 {
+        link_front(n, ids, counts, targets, emitted);
+    } else {
+        link_front(1024, ids, counts, targets, emitted);
+    }
+}

@@ -1,0 +1,4 @@
+pub mod Steps
+pub mod Range
+pub mod Compose
+pub mod Pieces

@@ -1,0 +1,6 @@
+pub mod Op
+pub mod Operand
+pub mod Instruction
+pub mod Terminator
+pub mod Held
+pub mod Step

@@ -1,0 +1,10 @@
+pub mod Masks
+pub mod Leads
+pub mod Table
+pub mod Steps
+pub mod Settle
+pub mod Sweeps
+pub mod Runs
+pub mod Signed
+pub mod Unique
+pub mod Lacking

@@ -1,0 +1,1 @@
+// Theorems over the definitions of the crates below. No code.

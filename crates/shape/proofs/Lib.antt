@@ -1,0 +1,10 @@
+pub mod Starts
+pub mod Lengths
+pub mod Judged
+pub mod Rules
+mod Tests
+mod Uses
+mod Members
+mod Signs
+mod Passes
+mod Relocs

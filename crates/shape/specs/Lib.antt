@@ -1,0 +1,8 @@
+pub mod Code
+pub mod Fields
+pub mod Shape
+pub mod Relocations
+pub mod Shapes
+pub mod Set
+pub mod Pair
+pub mod Order

@@ -1,0 +1,4 @@
+pub mod Laws
+mod Parts
+mod Merge
+mod Runs

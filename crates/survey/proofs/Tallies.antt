@@ -1,0 +1,183 @@
+-- Variables put among those that were collected, one record after the other.
+use mathlib.Core.Path.{_≡_, refl, sym, ap, _∙_}
+use mathlib.Core.Bool.{Bool, true, false}
+use mathlib.Core.List.{List, [], _∷_, _++_, append-nil}
+use Prim.Native.Nat.{ℕ, suc, _+_, _-_, _<_, _≤_}
+use native.Mathlib.Nat.{zero-add}
+use native.Mathlib.Omega.{arith}
+use borrow.Author.Tests.{le-leb, lt-leb, leb-true, leb-false}
+use lib.Dec.{eqb, leb, ltb}
+use lib.ListN.{length, take, drop, take-append-drop, drop-of-length-le}
+use lib.Seq.{sets, sets-eq, length-sets, length-take-le, take-all, take-at, drop-at, drop-drop}
+use Rattle.wire.specs.Pick.{pick}
+use Rattle.frame.specs.Variables.{insert, insertedAnswer, insertedList}
+use Rattle.frame.specs.declared.Inserted.the-variants as I
+use Rattle.ir.specs.Operands.{listOf, firstOf, restOf}
+use Rattle.ir.specs.declared.Instruction.{Instruction}
+use Rattle.ir.specs.declared.Operand.{Operand}
+use Rattle.ir.specs.declared.Operand.the-variants as O
+use Rattle.ir.specs.declared.operands.Head.the-variants as H
+use Rattle.ir.specs.declared.operands.Operands.{Operands}
+use Rattle.ir.proofs.OperandLaws.{first-is, first-nothing}
+use Rattle.unitfile.specs.declared.Found.{Found}
+use Rattle.unitfile.proofs.Choice.{pick-ind}
+use Rattle.survey.specs.Occurrences.{Occurrence, ofOperand, ofOperands, ofInstruction}
+use Rattle.survey.specs.Collected.{Collected, all, tooMany, collect}
+use Rattle.survey.specs.Surveyed.{variablesOf, counted}
+use Rattle.survey.specs.Inner.{used, gathered, further, Holds, Takes, tallied}
+use Rattle.survey.specs.declared.Survey.the-variants as S
+use Rattle.survey.specs.declared.occurrences.Tally.{Tally}
+use Rattle.survey.specs.declared.occurrences.Tally.the-variants as T
+
+-- ---- one list of occurrences after the other
+
+further-nil : (c : Collected) → further c [] ≡ c
+unfolding further collect
+further-nil (all vs) = refl
+further-nil (tooMany place vs) = refl
+
+either-way : (t : Bool) (a b : Collected) (place : ℕ) (vs : List ℕ) (ps : List Occurrence) → a ≡ further b ps → pick t a (tooMany place vs) ≡ further (pick t b (tooMany place vs)) ps
+unfolding further
+either-way true a b place vs ps e = e
+either-way false a b place vs ps e = refl
+
+collect-append : (vs : List ℕ) (os ps : List Occurrence) → collect vs (os ++ ps) ≡ further (collect vs os) ps
+unfolding further collect
+collect-append vs [] ps = refl
+collect-append vs (o ∷ os) ps = either-way (leb (length (insert (o .variable) vs)) 56) _ _ (o .place) vs ps (collect-append (insert (o .variable) vs) os ps)
+
+further-append : (c : Collected) (os ps : List Occurrence) → further c (os ++ ps) ≡ further (further c os) ps
+unfolding further
+further-append (all vs) os ps = collect-append vs os ps
+further-append (tooMany place vs) os ps = refl
+
+past : (a b : ℕ) (x y : List ℕ) → a ≤ b → drop a x ≡ drop a y → drop b x ≡ drop b y
+past a b x y h e =
+    let sum : a + (b - a) ≡ b = omega arith in
+    rw sum at (sym (drop-drop (b - a) a x) ∙ ap (drop (b - a)) e ∙ drop-drop (b - a) a y)
+
+pub nothing : {t : Tally} {l : List ℕ} → Holds t l → Takes t l [] t l
+nothing h = record { holds = h; more = omega arith; gathers = sym (further-nil _); rest = refl }
+
+pub then : {t r s : Tally} {l m n : List ℕ} {os ps : List Occurrence} → Takes t l os r m → Takes r m ps s n → Takes t l (os ++ ps) s n
+then {t} {r} {s} {l} {m} {n} {os} {ps} a b =
+    let more = b .more in
+    record {
+      holds = b .holds;
+      more = omega (arith, a .more);
+      gathers = b .gathers ∙ ap (λ (c : Collected). further c ps) (a .gathers) ∙ sym (further-append (gathered t l) os ps);
+      rest = b .rest ∙ past (used r) (used s) m l more (a .rest);
+    }
+
+-- ---- one variable
+
+abbrev Longer : List ℕ → List ℕ → Type 0
+Longer l m = (length l ≤ length m) × (length m ≤ suc (length l))
+
+insert-length : (x : ℕ) (l : List ℕ) → Longer l (insert x l)
+unfolding insert
+insert-length x [] = (omega arith, omega arith)
+insert-length x (y ∷ ys) =
+    let n = insert-length x ys in
+    pick-ind (Longer (y ∷ ys)) (ltb x y) _ _
+    (λ e. (omega arith, omega arith))
+    (λ e. pick-ind (Longer (y ∷ ys)) (eqb x y) _ _ (λ f. (omega arith, omega arith)) (λ f. (omega arith, omega arith)))
+
+module _ (l : List ℕ) (n place v : ℕ) (h : Holds (T.Count n) l) where
+  abbrev w : List ℕ
+  w = insert v (take n l)
+
+  abbrev Took : Tally → List ℕ → Type 0
+  Took r m = Takes (T.Count n) l (record { place = place; variable = v } ∷ []) r m
+
+  within : n ≤ 56
+  unfolding used
+  within = h .most
+
+  front : length (take n l) ≡ n
+  front = length-take-le n l (omega (arith, h .size, within))
+
+  counts-by : (t : Bool) → leb (length w) (length l) ≡ t → {m : List ℕ} (k : ℕ) → pick t (I.Count (length w)) I.Full ≡ I.Count k → m ≡ pick t (sets l 0 w) l → Took (T.Count k) m
+  unfolding used gathered further collect
+  counts-by true e {m} k a b =
+      let same : length w ≡ k = cc in
+      let room : length w ≤ 56 = omega (arith, leb-true (length w) (length l) e, h .size) in
+      let long : n ≤ length w = omega (arith, insert-length v (take n l) .0, front) in
+      let parts : m ≡ w ++ drop k l = b ∙ sets-eq w l 0 (omega (arith, h .size)) ∙ rw (zero-add, same) in
+      record {
+        holds = record { size = ap length b ∙ length-sets l 0 w ∙ h .size; most = omega arith };
+        more = omega arith;
+        gathers = ap all (ap (take k) parts ∙ take-at w (drop k l) k same) ∙ rw (le-leb (length w) 56 room);
+        rest = ap (drop k) parts ∙ drop-at w (drop k l) k same;
+      }
+  counts-by false e k a b = let z : _≡_ {A = ℕ} 0 1 = cc in absurd (omega arith)
+
+  pub counts : {m : List ℕ} (k : ℕ) → insertedAnswer l n v ≡ I.Count k → m ≡ insertedList l n v → Took (T.Count k) m
+  unfolding insertedAnswer insertedList
+  counts k = counts-by (leb (length w) (length l)) refl k
+
+  overflows-by : (t : Bool) → leb (length w) (length l) ≡ t → {m : List ℕ} → pick t (I.Count (length w)) I.Full ≡ I.Full → m ≡ pick t (sets l 0 w) l → Took (T.TooMany place) m
+  unfolding used gathered further collect
+  overflows-by true e a b = let z : _≡_ {A = ℕ} 0 1 = cc in absurd (omega arith)
+  overflows-by false e a b =
+      let over : 56 < length w = omega (arith, leb-false (length w) (length l) e, h .size) in
+      let whole : take n l ≡ l = take-all n l (omega (arith, insert-length v (take n l) .1, front, h .size)) in
+      record {
+        holds = record { size = ap length b ∙ h .size; most = omega arith };
+        more = within;
+        gathers = ap (tooMany place) (b ∙ sym whole) ∙ rw (lt-leb (length w) 56 over);
+        rest = ap (drop 56) b;
+      }
+
+  pub overflows : {m : List ℕ} → insertedAnswer l n v ≡ I.Full → m ≡ insertedList l n v → Took (T.TooMany place) m
+  unfolding insertedAnswer insertedList
+  overflows = overflows-by (leb (length w) (length l)) refl
+
+-- after the 57th nothing is taken
+pub full : {l : List ℕ} (t : Tally) (place : ℕ) (os : List Occurrence) → t ≡ T.TooMany place → Holds t l → Takes t l os t l
+unfolding gathered further
+full (T.Count n) place os e h = let z : _≡_ {A = ℕ} 0 1 = cc in absurd (omega arith)
+full (T.TooMany p) place os e h = record { holds = h; more = omega arith; gathers = refl; rest = refl }
+
+-- ---- the variables of a record
+
+pub no-more : {t : Tally} {l : List ℕ} (place : ℕ) (left : Operands) → firstOf left ≡ H.Nothing → Holds t l → Takes t l (ofOperands place (listOf left)) t l
+unfolding ofOperands
+no-more place left e h = rw (first-nothing left e) (nothing h)
+
+module _ {t r s : Tally} {l m n : List ℕ} (place : ℕ) where
+  pub one-more : (left : Operands) (o : Operand) → firstOf left ≡ H.Is o → Takes t l (ofOperand place o) r m → Takes r m (ofOperands place (listOf (restOf left))) s n → Takes t l (ofOperands place (listOf left)) s n
+  unfolding ofOperands
+  one-more left o e a b = rw (first-is left o e) (then a b)
+
+  pub instruction : (i : Instruction) (o : Operand) → o ≡ O.Var (i .result) → Takes t l (ofOperand place o) r m → Takes r m (ofOperands place (listOf (i .operands))) s n → Takes t l (ofInstruction place i) s n
+  unfolding ofInstruction ofOperand
+  instruction i o e a b = then (rw e at a) b
+
+-- ---- the end
+
+answer-of : (found : Found) (r : Tally) (m : List ℕ) → Holds r m → tallied found r ≡ counted found (gathered r m)
+unfolding tallied counted gathered used
+answer-of found (T.Count n) m h = ap (S.Unit found) (sym (length-take-le n m (omega (arith, h .size, h .most))))
+answer-of found (T.TooMany place) m h = refl
+
+size-of : (r : Tally) (m : List ℕ) → Holds r m → length (variablesOf (gathered r m)) ≡ used r
+unfolding variablesOf gathered used
+size-of (T.Count n) m h = length-take-le n m (omega (arith, h .size, h .most))
+size-of (T.TooMany place) m h = h .size
+
+list-of : (r : Tally) (m : List ℕ) → Holds r m → m ≡ variablesOf (gathered r m) ++ drop (used r) m
+unfolding variablesOf gathered used
+list-of (T.Count n) m h = sym (take-append-drop n m)
+list-of (T.TooMany place) m h = sym (ap (λ (x : List ℕ). m ++ x) (drop-of-length-le m {i = 56} (omega (arith, h .size))) ∙ append-nil m)
+
+module _ {t : Tally} {l m : List ℕ} {os : List Occurrence} {r : Tally} (a : Takes t l os r m) where
+  pub answer : (found : Found) → tallied found r ≡ counted found (further (gathered t l) os)
+  answer found = answer-of found r m (a .holds) ∙ ap (counted found) (a .gathers)
+
+  pub afterwards : length l ≡ 56 → m ≡ sets l 0 (variablesOf (further (gathered t l) os))
+  afterwards size =
+      let vs = variablesOf (gathered r m) in
+      let n = size-of r m (a .holds) in
+      let room : 0 + length vs ≤ length l = omega (arith, a .holds .most) in
+      list-of r m (a .holds) ∙ ap (λ (x : List ℕ). vs ++ x) (a .rest ∙ rw (sym n) (rw zero-add refl)) ∙ sym (sets-eq vs l 0 room) ∙ ap (λ (c : Collected). sets l 0 (variablesOf c)) (a .gathers)

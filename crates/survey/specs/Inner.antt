@@ -1,0 +1,76 @@
+-- What the crate's own functions answer, while the pass goes on.
+use Prim.Native.Nat.{ℕ, _+_, _≤_}
+use mathlib.Core.Path.{_≡_}
+use mathlib.Core.List.{List, [], _∷_}
+use lib.ListN.{length, take, drop}
+use lib.Seq.{sets}
+use Rattle.record.specs.declared.Record.{Record}
+use Rattle.record.specs.declared.Record.the-variants as R
+use Rattle.unitfile.specs.declared.Found.{Found}
+use Rattle.survey.specs.Occurrences.{Occurrence, ofInstruction, ofTerminator}
+use Rattle.survey.specs.Collected.{Collected, all, tooMany, collect}
+use Rattle.survey.specs.declared.Survey.{Survey}
+use Rattle.survey.specs.declared.Survey.the-variants as S
+use Rattle.survey.specs.declared.occurrences.Tally.{Tally}
+use Rattle.survey.specs.declared.occurrences.Tally.the-variants as T
+use Rattle.survey.specs.declared.pass.Going.{Going}
+
+-- how many places of the lent list are used
+unfoldable pub used : Tally → ℕ
+used (T.Count n) = n
+used (T.TooMany place) = 56
+
+-- what was collected so far
+unfoldable pub gathered : Tally → List ℕ → Collected
+gathered (T.Count n) l = all (take n l)
+gathered (T.TooMany place) l = tooMany place l
+
+-- and then the variables that come
+unfoldable pub further : Collected → List Occurrence → Collected
+further (all variables) os = collect variables os
+further (tooMany place variables) os = tooMany place variables
+
+pub record Holds (t : Tally) (l : List ℕ) : Type 0 where
+  pub size : length l ≡ 56
+  pub most : used t ≤ 56
+
+-- the variables that os name are put among those of the tally t and the list l, the rest of which is as it was
+pub record Takes (t : Tally) (l : List ℕ) (os : List Occurrence) (r : Tally) (m : List ℕ) : Type 0 where
+  pub holds : Holds r m
+  pub more : used t ≤ used r
+  pub gathers : gathered r m ≡ further (gathered t l) os
+  pub rest : drop (used r) m ≡ drop (used r) l
+
+unfoldable pub tallied : Found → Tally → Survey
+tallied found (T.Count n) = S.Unit found n
+tallied found (T.TooMany place) = S.TooMany place
+
+-- ---- what one record brings: variables, the id of a block that begins, and at a terminator the block's id and the place
+
+unfoldable pub ofRecord : ℕ → Record → List Occurrence
+ofRecord place (R.Head h) = []
+ofRecord place (R.Map start len) = []
+ofRecord place (R.Block id) = []
+ofRecord place (R.Instruction i) = ofInstruction place i
+ofRecord place (R.Terminator t) = ofTerminator place t
+
+unfoldable pub idAfter : ℕ → Record → ℕ
+idAfter id (R.Head h) = id
+idAfter id (R.Map start len) = id
+idAfter id (R.Block begun) = begun
+idAfter id (R.Instruction i) = id
+idAfter id (R.Terminator t) = id
+
+unfoldable pub atEnd : ℕ → Record → List ℕ
+atEnd x (R.Head h) = []
+atEnd x (R.Map start len) = []
+atEnd x (R.Block id) = []
+atEnd x (R.Instruction i) = []
+atEnd x (R.Terminator t) = x ∷ []
+
+pub record Passes (place : ℕ) (value : Record) (g : Going) (vs is es : List ℕ) (r : Going) (vs′ is′ es′ : List ℕ) : Type 0 where
+  pub takes : Takes (g .tally) vs (ofRecord place value) (r .tally) vs′
+  pub id : r .id ≡ idAfter (g .id) value
+  pub block : r .block ≡ g .block + length (atEnd place value)
+  pub ids : is′ ≡ sets is (g .block) (atEnd (g .id) value)
+  pub endings : es′ ≡ sets es (g .block) (atEnd place value)

@@ -1,0 +1,5 @@
+pub mod Occurrences
+pub mod Collected
+pub mod Conditions
+pub mod Surveyed
+pub mod Inner

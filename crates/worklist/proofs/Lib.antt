@@ -1,0 +1,4 @@
+pub mod Bit
+pub mod LowestBit
+pub mod Total
+pub mod Words

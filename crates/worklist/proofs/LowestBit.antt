@@ -1,0 +1,77 @@
+-- The lowest set bit of a word, by `trailing_zeros`: which it is, and the word without it.
+use mathlib.Core.Path.{_≡_, refl, sym, ap, _∙_, subst}
+use Prim.Native.Nat.{ℕ, zero, suc, _-_, _*_, _/_, _%_, _^_, _<_}
+use native.Mathlib.Nat.{pow-suc, le-of-suc-le-suc, one-mul}
+use native.Mathlib.Omega.{arith}
+use native.Mathlib.Decide.{decLt}
+use lib.Bits.{bitOr}
+use lib.Count.{trailingZeros, under}
+use lib.Pow.{pow-mono, shl-exact}
+use Rattle.worklist.specs.Words.{bit, Lowest}
+use Rattle.worklist.proofs.Bit.{bit-le, bit-or, bit-zero, bit-suc}
+
+pub lowest : (k n : ℕ) → 0 < n → n < 2 ^ k → Lowest n (trailingZeros k n)
+unfolding trailingZeros
+lowest zero n p l = absurd (omega arith)
+lowest (suc k) n p l = go (n % 2) refl (λ h1 h2. lowest k (n / 2) h1 h2)
+  where
+    half : n / 2 < 2 ^ k
+    half = omega (arith, pow-suc 2 k)
+
+    odd : n % 2 ≡ 1 → Lowest n 0
+    odd e =
+        record {
+          set = bit-zero n ∙ e;
+          clear = λ r h. absurd (omega arith);
+          has = omega arith;
+          rest = λ r ne. rest r ne;
+        }
+      where
+        rest : (r : ℕ) → (r ≡ 0 → ⊥) → bit (n - 1) r ≡ bit n r
+        rest zero ne = absurd (ne refl)
+        rest (suc r) ne = bit-suc (n - 1) r ∙ ap (λ (x : ℕ). bit x r) (omega arith) ∙ sym (bit-suc n r)
+
+    even : (z : ℕ) → n % 2 ≡ 0 → Lowest (n / 2) z → Lowest n (suc z)
+    even z e L =
+        record {
+          set = bit-suc n z ∙ L .set;
+          clear = λ r h. low r h;
+          has = omega (arith, pow-suc 2 z, L .has);
+          rest = λ r ne. rest r ne;
+        }
+      where
+        low : (r : ℕ) → r < suc z → bit n r ≡ 0
+        low zero h = bit-zero n ∙ e
+        low (suc r) h = bit-suc n r ∙ L .clear r (le-of-suc-le-suc h)
+
+        rest : (r : ℕ) → (r ≡ suc z → ⊥) → bit (n - 2 ^ suc z) r ≡ bit n r
+        rest zero ne = bit-zero (n - 2 ^ suc z) ∙ omega (arith, pow-suc 2 z, L .has) ∙ sym (bit-zero n)
+        rest (suc r) ne =
+            bit-suc (n - 2 ^ suc z) r ∙ ap (λ (x : ℕ). bit x r) (omega (arith, pow-suc 2 z, L .has)) ∙ L .rest r (λ q. ne (ap suc q)) ∙ sym (bit-suc n r)
+
+    go : (b : ℕ) → n % 2 ≡ b → (0 < n / 2 → n / 2 < 2 ^ k → Lowest (n / 2) (trailingZeros k (n / 2))) → Lowest n (under (n % 2) (trailingZeros k (n / 2)))
+    go zero e ih = subst (λ (b : ℕ). Lowest n (under b (trailingZeros k (n / 2)))) (sym e) (even (trailingZeros k (n / 2)) e (ih (omega arith) half))
+    go (suc b) e ih = subst (λ (b : ℕ). Lowest n (under b (trailingZeros k (n / 2)))) (sym e) (odd (omega arith))
+
+-- a set bit b of x | 2 ^ b, and the other bits stay
+pub bit-pow : (b : ℕ) → bit (2 ^ b) b ≡ 1
+bit-pow zero = bit-zero 1
+bit-pow (suc b) = bit-suc (2 ^ suc b) b ∙ ap (λ (x : ℕ). bit x b) (omega (arith, pow-suc 2 b)) ∙ bit-pow b
+
+pub or-pow : (x b : ℕ) → bit (bitOr x (2 ^ b)) b ≡ 1
+or-pow x b = omega (arith, bit-or x (2 ^ b) b, bit-pow b, bit-le x b)
+
+pub or-keeps : (x y r : ℕ) → bit x r ≡ 1 → bit (bitOr x y) r ≡ 1
+or-keeps x y r e = omega (arith, bit-or x y r, bit-le y r)
+
+-- the lowest set bit of a number below 2 ^ k is below k
+pub lowest-below : (k n z : ℕ) → n < 2 ^ k → Lowest n z → z < k
+lowest-below k n z l L = go (decLt z k)
+  where
+    go : Dec (z < k) → z < k
+    go (yes h) = h
+    go (no h) = absurd (omega (arith, pow-mono {i = k} {j = z} (omega arith), L .has))
+
+-- a shift of 1 within a width
+pub shl-one : (k w : ℕ) → k < w → 1 * 2 ^ k % 2 ^ w ≡ 2 ^ k
+shl-one k w h = shl-exact 1 k w (omega arith) (omega arith) ∙ one-mul (2 ^ k)

@@ -1,0 +1,14 @@
+-- `worklist::one` is a power of 2.
+use borrow.Author.Needs.{needs}
+use Rattle.worklist.proofs.one.Statement.{statement}
+use Rattle.worklist.proofs.one.Tie as tie
+use Rattle.worklist.proofs.LowestBit.{shl-one}
+
+shl-result : tie.Need-shl-result
+shl-result c = search needs
+
+returns : tie.Need-returns
+returns c = shl-one (c .args .k) 64 (c .pre)
+
+pub one-spec : {M : Type 1} → statement M
+one-spec = tie.close (tie.spec shl-result returns)
