@@ -47,7 +47,7 @@ pub record Unread (b : List ℕ) (s r : ℕ) : Type 0 where
 
 module _ (b : List ℕ) (s x : ℕ) (X : Readable b s x) where
   -- the lowest bit is that register
-  pub unread-at : (r : ℕ) → Lowest (lacking (readMask b s) x) r → Unread b s r
+  unread-at : (r : ℕ) → Lowest (lacking (readMask b s) x) r → Unread b s r
   unread-at r L =
       let need : ℕ = readMask b s in
       let lr : r < 11 = lowest-below 11 (lacking need x) r (omega (arith, and-le-l need (2047 - x), read-lt b s)) L in

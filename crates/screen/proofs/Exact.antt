@@ -9,12 +9,13 @@ use lib.ListN.{length}
 use Rattle.shape.specs.Code.{slots}
 use Rattle.shape.specs.Shapes.{lengthOk, judged}
 use Rattle.shape.specs.declared.Shapes.the-variants as Ss
+use Rattle.shape.proofs.Judged.{judged-fine}
 use Rattle.paths.specs.Way.{Passes}
 use Rattle.paths.specs.Readable.{Filled}
 use Rattle.screen.specs.declared.Verdict.{Verdict}
 use Rattle.screen.specs.declared.Verdict.the-variants.{Yes}
 use Rattle.screen.specs.Verdict.{Before, fine, refused, beforePaths, Clear, Judged, passed, unreadable, past, ScreenedAfter, Screened}
-use Rattle.screen.proofs.Fine.{parts, whole}
+use Rattle.screen.proofs.Before.{parts, whole}
 use Rattle.screen.proofs.OneAnswer.{one-verdict}
 
 -- no instruction reads a register that some path there lacks, and no path passes the last slot
@@ -44,10 +45,10 @@ exact b l t u room = (there, back)
         let e = fine-here b l t u p in
         let F = parts b l (length t) e in
         let q = rw e at p in
-        ((F .long, (F .judges, yes-parts b (q .0) refl)), q .1)
+        ((judged-fine b l (F .1) .length, (F .1, yes-parts b (q .0) refl)), q .1)
 
     back : NoFault b l × Filled b t u → Screened b l t Yes u
-    back (n, f) = rw (whole b l (length t) (n .0) room (n .1 .0)) (passed (n .1 .1 .0) (n .1 .1 .1), f)
+    back (n, f) = rw (whole b l (length t) room (n .1 .0)) (passed (n .1 .1 .0) (n .1 .1 .1), f)
 
 -- whatever answer meets the promise
 pub says-yes : (b l t : List ℕ) (v : Verdict) (u : List ℕ) → slots b ≤ length t → Screened b l t v u → (v ≡ Yes) ↔ NoFault b l
@@ -58,6 +59,6 @@ says-yes b l t v u room p = (there, back)
 
     back : NoFault b l → v ≡ Yes
     back n =
-        let e = whole b l (length t) (n .0) room (n .1 .0) in
+        let e = whole b l (length t) room (n .1 .0) in
         let q = rw e at p in
         one-verdict b l t v Yes u u p (exact b l t u room .1 (n, q .1)) .0

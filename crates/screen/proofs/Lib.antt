@@ -1,4 +1,4 @@
-pub mod Fine
+pub mod Before
 pub mod Low
 pub mod Pass
 pub mod OneAnswer

@@ -2,15 +2,15 @@
 use mathlib.Core.Path.{_≡_}
 use mathlib.Core.List.{List}
 use Prim.Native.Nat.{ℕ, _<_}
+use lib.Count.{trailingZeros}
 use lib.ListN.{length}
 use borrow.Author.Tests.{lt-ltb, le-leb}
-use Rattle.worklist.specs.Words.{Lowest}
 use Rattle.shape.specs.Code.{slots}
 use Rattle.paths.specs.Mask.{readMask}
 use Rattle.paths.specs.Readable.{Readable, Filled, fits, Told, Analysed}
 use Rattle.paths.specs.declared.Ends.{Ends}
 use Rattle.paths.specs.declared.Ends.the-variants as E
-use Rattle.paths.proofs.Lacking.{lacking, unread-at, all-read}
+use Rattle.paths.proofs.Lacking.{lacking, unread, all-read}
 use Rattle.screen.specs.Verdict.{Clear, Lacking, Judged, passed, past}
 use Rattle.screen.specs.Parts.{Apt, endedOf}
 
@@ -23,8 +23,8 @@ module _ (b : List ℕ) (entries : ℕ) (A : Apt b entries) (s x : ℕ) (h : s <
   pub clear : lacking (readMask b s) x ≡ 0 → Clear b s
   clear z r e = all-read b s x X z r (A .low s r h e) e
 
-  pub first : (r : ℕ) → Lowest (lacking (readMask b s) x) r → Lacking b s r
-  first r L = let U = unread-at b s x X r L in record { inside = h; read = U .read; lacks = U .lacks; lowest = U .lowest }
+  pub first : 0 < lacking (readMask b s) x → Lacking b s (trailingZeros 16 (lacking (readMask b s) x))
+  first n = let U = unread b s x X n in record { inside = h; read = U .read; lacks = U .lacks; lowest = U .lowest }
 
 pub at-end : (b : List ℕ) (e : Ends) → ((s : ℕ) → s < slots b → Clear b s) → Told b e → Judged b (endedOf e (slots b))
 unfolding endedOf

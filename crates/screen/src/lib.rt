@@ -5,8 +5,8 @@ use shape::Shapes;
 use wire::refusal::Refusal;
 ghost use mathlib.Core.Path.{_≡_};
 ghost use Prim.Native.Nat.{ℕ, _<_};
+ghost use lib.Count.{trailingZeros};
 ghost use lib.ListN.{length, getD};
-ghost use Rattle.worklist.specs.Words.{Lowest};
 ghost use Rattle.shape.specs.Code.{slots};
 ghost use Rattle.paths.specs.Mask.{readMask};
 ghost use Rattle.paths.specs.Readable.{Readable, Told};
@@ -136,10 +136,9 @@ fn lacking_at(code: &[u8], table: &[u16], s: usize) -> u16
     paths::read_mask(code, s) & (2047 - table[s])
 }
 
-// The lowest set bit.
+// The lowest register of a mask.
 fn lowest(mask: u16) -> u8
-    requires { ⌜ 0 < mask ⌝ }
-    ensures { λ r. ⌜ Lowest mask r ⌝ }
+    ensures { λ r. ⌜ r ≡ trailingZeros 16 mask ⌝ }
 {
     u16::trailing_zeros(mask) as u8
 }

@@ -3,3 +3,5 @@ pub mod Layout
 pub mod Jumps
 pub mod Code
 pub mod Compile
+pub mod Inner
+pub mod Notes

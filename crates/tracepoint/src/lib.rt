@@ -1,5 +1,12 @@
 // From a unit's bytes to instruction bytes and relocations.
+mod context;
+mod walk;
+
 use lower::Reason;
+use wire::refusal::Refusal;
+ghost use mathlib.Core.Path.{_≡_};
+ghost use lib.IntN.{pos};
+ghost use Rattle.tracepoint.specs.Compile.{told, refusalOf, reasonRefusal};
 
 // Why a unit is not compiled.
 pub enum Fault {
@@ -16,4 +23,52 @@ pub enum Fault {
 pub enum Compiled {
     Done(u32, u32),
     Refused(Fault),
+}
+
+// ---- refusals
+
+fn told(number: u8, place: usize, value: i64) -> Refusal
+    ensures { λ r. ⌜ r ≡ told number place value ⌝ }
+{
+    Refusal {
+        number,
+        place,
+        value,
+    }
+}
+
+fn told_number(number: u8, place: usize, value: u32) -> Refusal
+    ensures { λ r. ⌜ r ≡ told number place (pos value) ⌝ }
+{
+    told(number, place, value as i64)
+}
+
+fn reason_refusal(place: usize, reason: Reason) -> Refusal
+    ensures { λ r. ⌜ r ≡ reasonRefusal place reason ⌝ }
+{
+    match reason {
+        Reason::Count(n) => told_number(11, place, n as u32),
+        Reason::Immediate(z) => told(12, place, z),
+        Reason::Offset(z) => told(13, place, z as i64),
+        Reason::LoadSize(n) => told_number(14, place, n as u32),
+        Reason::StoreSize(n) => told_number(15, place, n as u32),
+        Reason::Helper16 => told_number(16, place, 16),
+        Reason::Helper(id) => told_number(17, place, id),
+        Reason::NoCell(v) => told_number(20, place, v),
+    }
+}
+
+// 01's number, place and value of each fault.
+pub fn refusal(f: Fault) -> Refusal
+    ensures { λ r. ⌜ r ≡ refusalOf f ⌝ }
+{
+    match f {
+        Fault::Reading(g) => record::refusal(g),
+        Fault::Variables(place) => told_number(10, place, 57),
+        Fault::Instruction(place, reason) => reason_refusal(place, reason),
+        Fault::NoTarget(place, id) => told_number(18, place, id),
+        Fault::TooFar(place, id) => told_number(19, place, id),
+        Fault::CodeRoom(needed) => told_number(21, 0, needed),
+        Fault::RelocRoom(needed) => told_number(22, 0, needed),
+    }
 }

@@ -6,16 +6,16 @@ use mathlib.Core.Path.{sym, _∙_}
 use native.Mathlib.Omega.{arith}
 use borrow.Author.Tests.{le-leb, lt-leb}
 use Rattle.shape.specs.Code.{slots}
+use Rattle.shape.proofs.Lengths.{length-slots}
 use Rattle.screen.specs.Parts.{soFar}
 use Rattle.screen.specs.Verdict.{beforePaths}
-use Rattle.screen.proofs.Fine.{slots-some}
 
 length-ok-requires : tie.Need-length-ok-requires
 length-ok-requires c κs = search needs
 
 cast-t8 : tie.Need-cast-t8
 unfolding slots
-cast-t8 c = omega (arith, slots-some (c .before .before .before .before .before .args .code .now) (sym (c .before .before .length-ok .ensures) ∙ c .before .if1 .taken) .1)
+cast-t8 c = omega (arith, length-slots (c .before .before .before .before .before .args .code .now) (sym (c .before .before .length-ok .ensures) ∙ c .before .if1 .taken))
 
 returns : tie.Need-returns
 unfolding slots soFar beforePaths

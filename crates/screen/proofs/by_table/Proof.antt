@@ -31,7 +31,7 @@ lacking-at-requires c κs =
     (omega (arith, P .0 .room), P .1 .0 s h .small)
 
 lowest-requires : tie.Need-lowest-requires Inv-loop μ-loop
-lowest-requires c κs = omega arith
+lowest-requires c κs = search needs
 
 returns : tie.Need-returns Inv-loop μ-loop
 unfolding slots
@@ -40,7 +40,7 @@ returns c =
     let L = c .before .before .before .before .loop in
     let lacks = c .before .before .lacking-at in
     let h : L .s < slots (S .args .code .now) = c .before .before .before .loop-test .taken in
-    unreadable (first (S .args .code .now) (length (S .args .table .now)) (S .pre .0) (L .s) (getD (S .args .table .now) (L .s) 0) h (S .pre .1 .0 (L .s) h) (c .lowest .result) (rw (lacks .ensures) at (c .lowest .ensures))) (L .inv .1)
+    rw (c .lowest .ensures, lacks .ensures) (unreadable (first (S .args .code .now) (length (S .args .table .now)) (S .pre .0) (L .s) (getD (S .args .table .now) (L .s) 0) h (S .pre .1 .0 (L .s) h) (omega (arith, lacks .ensures))) (L .inv .1))
 
 add-s : tie.Need-add-s Inv-loop μ-loop
 add-s c = omega arith

@@ -1,0 +1,9 @@
+pub mod Laid
+pub mod Flat
+pub mod Steps
+pub mod Keep
+pub mod Located
+pub mod Tidy
+pub mod Marks
+pub mod Lists
+pub mod Noting
