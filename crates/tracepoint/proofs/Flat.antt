@@ -4,9 +4,7 @@ use mathlib.Core.Bool.{Bool, true, false}
 use mathlib.Core.List.{List, [], _∷_, _++_, map}
 use Prim.Native.Nat.{ℕ, suc, _+_}
 use native.Mathlib.Nat.{add-zero, add-assoc}
-use native.Mathlib.Omega.{arith}
 use Rattle.wire.specs.Pick.{pick}
-use Rattle.record.specs.declared.Record.{Record}
 use Rattle.record.specs.declared.Record.the-variants as R
 use Rattle.unitfile.specs.Records.{Placed}
 use Rattle.unitfile.specs.Unit.{PlacedInstruction, BasicBlock}

@@ -1,11 +1,10 @@
 -- The blocks that are kept by their numbers are those whose id is reached.
-use mathlib.Core.Path.{_≡_, refl, sym, ap, _∙_}
-use mathlib.Core.Bool.{Bool, true, false}
+use mathlib.Core.Path.{_≡_, refl, ap, _∙_}
+use mathlib.Core.Bool.{Bool}
 use mathlib.Core.List.{List, [], _∷_}
-use Prim.Native.Nat.{ℕ, zero, suc, _+_, _<_}
+use Prim.Native.Nat.{ℕ, suc, _+_, _<_}
 use native.Mathlib.Omega.{arith}
 use lib.ListN.{length, getD}
-use Rattle.wire.specs.Pick.{pick}
 use Rattle.unitfile.specs.Unit.{BasicBlock}
 use Rattle.survey.specs.Surveyed.{ids}
 use Rattle.tracepoint.specs.Emitted.{keep}

@@ -1,10 +1,9 @@
 -- Operations laid one after the other.
 use mathlib.Core.Path.{_≡_, refl, sym, ap, _∙_}
 use mathlib.Core.List.{List, [], _∷_, _++_, append-assoc}
-use Prim.Native.Nat.{ℕ, suc, _+_}
+use Prim.Native.Nat.{ℕ, _+_}
 use native.Mathlib.Omega.{arith}
 use Rattle.lower.specs.Op.{Op, plain, map, ja, jne, slotsOf}
-use Rattle.lower.specs.declared.Reason.{Reason}
 use Rattle.tracepoint.specs.Layout.{Laid, laid, refusedAt, _then_, ops, slots}
 
 pub nothing-then : (x : Laid) → (laid [] then x) ≡ x

@@ -7,3 +7,5 @@ pub mod Tidy
 pub mod Marks
 pub mod Lists
 pub mod Noting
+pub mod Written
+pub mod Conditions

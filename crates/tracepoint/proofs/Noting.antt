@@ -5,7 +5,7 @@ use mathlib.Core.List.{List, [], _∷_, _++_, map}
 use Prim.Native.Nat.{ℕ, suc, _+_, _*_, _≤_}
 use native.Mathlib.Omega.{arith}
 use lib.Dec.{eqb}
-use lib.ListN.{length, set, length-append, length-set}
+use lib.ListN.{length, length-append, length-set}
 use lib.Seq.{sets}
 use types.Run.{OneOf}
 use denote.Enum.Declared.{tagOf}
@@ -34,7 +34,7 @@ use Rattle.tracepoint.specs.Inner.{conditionFrom, markFrom}
 use Rattle.tracepoint.specs.Notes.{marksOn, marksAfter, countOf, firstTarget, secondTarget, countsOf, pairsOf, recordMarks, recordCount, recordPair, Notes, Noted}
 use Rattle.tracepoint.proofs.Lists.{sets-append, at-end-length}
 use Rattle.tracepoint.proofs.Marks.{either-false, both-false, mark-more}
-use Rattle.tracepoint.proofs.Steps.{rest, Goes, rest-first, goes-first, few-endings, Stepped, stepped, stopped}
+use Rattle.tracepoint.proofs.Steps.{rest, Goes, rest-first, goes-first, few-endings, stepped, stopped}
 
 -- ---- over the records as they come
 

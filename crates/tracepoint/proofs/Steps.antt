@@ -2,7 +2,7 @@
 use mathlib.Core.Path.{_≡_, refl, sym, ap, _∙_}
 use mathlib.Core.List.{List, [], _∷_}
 use mathlib.Core.Logic.{⊎-elim}
-use Prim.Native.Nat.{ℕ, _+_, _*_, _≤_}
+use Prim.Native.Nat.{ℕ, _≤_}
 use native.Mathlib.Omega.{arith}
 use lib.ListN.{length}
 use types.Run.{OneOf}
@@ -20,7 +20,7 @@ use Rattle.unitfile.proofs.Blocks.{flat}
 use Rattle.unitfile.proofs.Places.{ascends, ascend-count}
 use Rattle.unitfile.proofs.Run.{on-go, on-end, on-refused}
 use Rattle.unitfile.proofs.Units.{unit-of}
-use Rattle.survey.specs.Surveyed.{blocksOf, endings}
+use Rattle.survey.specs.Surveyed.{blocksOf}
 use Rattle.survey.proofs.Bounds.{blocks-flat, few-blocks}
 use Rattle.survey.proofs.Flat.{flatEndings, endings-flat, endings-count}
 

@@ -2,11 +2,11 @@
 use mathlib.Core.Path.{_≡_, refl, sym, ap, _∙_, subst}
 use mathlib.Core.Bool.{Bool, true, false}
 use mathlib.Core.List.{List, [], _∷_, _++_, append-assoc}
-use Prim.Native.Nat.{ℕ, zero, suc, _+_, _-_, _≤_}
+use Prim.Native.Nat.{ℕ, zero, suc, _-_, _≤_}
 use native.Mathlib.Omega.{arith}
 use lib.Dec.{eqb}
 use lib.IntN.{ℤ, pos}
-use lib.ListN.{length, take, length-append}
+use lib.ListN.{length, length-append}
 use lib.Seq.{take-at}
 use Rattle.wire.specs.Pick.{pick, either}
 use Rattle.ir.specs.Operands.{listOf}
@@ -25,13 +25,12 @@ use Rattle.insn.specs.declared.form.Form.{Form}
 use Rattle.frame.specs.Cell.{Frame}
 use Rattle.frame.specs.declared.Cell.{Cell}
 use Rattle.frame.specs.declared.Cell.the-variants.{At, Missing}
-use Rattle.lower.specs.Op.{Op, plain, map, ja, jne, Lowered, becomes, refused, insn, _▸_}
+use Rattle.lower.specs.Op.{Op, plain, Lowered, becomes, refused, insn, _▸_}
 use Rattle.lower.specs.Operand.{fits16, fits32, constant, move, add, call, onCell, load, addr, next, keep, mapAddress}
 use Rattle.lower.specs.Instruction.{onFirst, onTwo, onThree, onNone, sized, mem, operate, fromContext, helperCall, nullCheck, opcode, instruction}
 use Rattle.lower.specs.Step.{all, mapOps}
 use Rattle.lower.specs.Held.{zeros, padded, plains, mapIn, held}
 use Rattle.lower.specs.declared.Reason.{Reason}
-use Rattle.lower.specs.declared.Reason.the-variants as Re
 use Rattle.lower.specs.declared.MapUse.{MapUse}
 use Rattle.lower.specs.declared.MapUse.the-variants as U
 use Rattle.lower.specs.declared.Emitted.{Emitted}

@@ -1,8 +1,6 @@
 -- `flag` is the mark at a number, and none past the end.
-use mathlib.Core.Path.{refl, ap}
-use Prim.Native.Nat.{ℕ}
-use lib.Dec.{eqb}
-use lib.ListN.{length, List·getD-eq-default}
+use mathlib.Core.Path.{refl}
+use lib.ListN.{List·getD-eq-default}
 use native.Mathlib.Omega.{arith}
 use Rattle.tracepoint.specs.Inner.{marked}
 use borrow.Author.Needs.{needs}
