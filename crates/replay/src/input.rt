@@ -20,6 +20,13 @@ pub(crate) fn number(fd: i32) -> u32 {
     wire::get_u32(&b, 0)
 }
 
+// A number whose first byte was read already: that byte says whether there is a case.
+pub(crate) fn number_after(fd: i32, low: u8) -> u32 {
+    let mut b = [0u8; 3];
+    io::read_full(fd, &mut b);
+    low as u32 + 256 * (wire::get_u16(&b, 0) as u32) + 16777216 * (wire::get_u8(&b, 2) as u32)
+}
+
 // n bytes of a buffer from a place on, read where they lie in it.
 pub(crate) fn bytes(fd: i32, buffer: &mut [u8], from: usize, n: usize) {
     if from <= buffer.len() {

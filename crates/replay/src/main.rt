@@ -1,4 +1,5 @@
 // Replays the stored lists of data/, each case through the public functions, and prints each answer.
+mod codes;
 mod input;
 mod output;
 mod records;
@@ -7,4 +8,5 @@ mod units;
 fn main() {
     units::replay();
     records::replay();
+    codes::replay();
 }

@@ -23,6 +23,10 @@ pub(crate) fn signed(z: i64) {
     }
 }
 
+pub(crate) fn hex_of(n: u64, digits: usize) {
+    io::print_hex(STDOUT_FILENO, n, digits);
+}
+
 fn wide(b: u8) -> u64 {
     b as u64
 }
@@ -30,7 +34,7 @@ fn wide(b: u8) -> u64 {
 pub(crate) fn hex(bytes: &[u8]) {
     let mut i = 0;
     while i < bytes.len() {
-        io::print_hex(STDOUT_FILENO, wide(bytes[i]), 2);
+        hex_of(wide(bytes[i]), 2);
         i += 1;
     }
 }

@@ -167,13 +167,6 @@ fn case(fd: i32, room: usize) {
     }
 }
 
-// The room's first byte was read already: it says whether there is a case.
-fn room(fd: i32, low: u8) -> usize {
-    let mut rest = [0u8; 3];
-    io::read_full(fd, &mut rest);
-    low as usize + 256 * (wire::get_u16(&rest, 0) as usize)
-}
-
 // One case after the other, until the list ends.
 pub(crate) fn replay() {
     let fd = os::open_read(b"records");
@@ -182,8 +175,7 @@ pub(crate) fn replay() {
         let Next::Byte(low) = input::byte(fd) else {
             return;
         };
-        let n = room(fd, low);
-        case(fd, n);
+        case(fd, input::number_after(fd, low) as usize);
         left -= 1;
     }
 }

@@ -21,8 +21,8 @@ shared-slice-read-wide c = search needs
 wide-requires : tie.Need-wide-requires Inv-loop μ-loop
 wide-requires c κs = search needs
 
-print-hex-requires : tie.Need-print-hex-requires Inv-loop μ-loop
-print-hex-requires c κs = search needs
+hex-of-requires : tie.Need-hex-of-requires Inv-loop μ-loop
+hex-of-requires c κs = search needs
 
 add-i : tie.Need-add-i Inv-loop μ-loop
 add-i c = omega arith
@@ -39,4 +39,4 @@ returns c = search needs
 pub hex-spec : {M : Type 1} → statement M
 hex-spec =
     tie.close
-    (tie.spec Inv-loop μ-loop loop-holds shared-slice-read-wide wide-requires print-hex-requires add-i loop-less loop-again returns)
+    (tie.spec Inv-loop μ-loop loop-holds shared-slice-read-wide wide-requires hex-of-requires add-i loop-less loop-again returns)

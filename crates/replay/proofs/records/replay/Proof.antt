@@ -32,8 +32,11 @@ enum-told c = search needs
 returns : tie.Need-returns Inv-loop μ-loop
 returns c = search needs
 
-room-requires : tie.Need-room-requires Inv-loop μ-loop
-room-requires c κs = search needs
+number-after-requires : tie.Need-number-after-requires Inv-loop μ-loop
+number-after-requires c κs = search needs
+
+cast-case : tie.Need-cast-case Inv-loop μ-loop
+cast-case c = search needs
 
 case-requires : tie.Need-case-requires Inv-loop μ-loop
 case-requires c κs = search needs
@@ -63,7 +66,8 @@ replay-spec =
     enum-known-low
     enum-told
     returns
-    room-requires
+    number-after-requires
+    cast-case
     case-requires
     sub-left
     loop-less
