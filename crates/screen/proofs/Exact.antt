@@ -37,16 +37,17 @@ fine-here b l t u p = go (beforePaths b l (length t)) p
     go fine p = refl
     go (refused f) p = let z : _≡_ {A = ℕ} 0 1 = cc (p .0) in absurd (omega arith)
 
-pub exact : (b l t u : List ℕ) → slots b ≤ length t → Screened b l t Yes u ↔ (NoFault b l × Filled b t u)
-exact b l t u room = (there, back)
-  where
-    there : Screened b l t Yes u → NoFault b l × Filled b t u
-    there p =
-        let e = fine-here b l t u p in
-        let F = parts b l (length t) e in
-        let q = rw e at p in
-        ((judged-fine b l (F .1) .length, (F .1, yes-parts b (q .0) refl)), q .1)
+-- a yes says that there is no fault
+pub yes-says : (b l t u : List ℕ) → Screened b l t Yes u → NoFault b l × Filled b t u
+yes-says b l t u p =
+    let e = fine-here b l t u p in
+    let F = parts b l (length t) e in
+    let q = rw e at p in
+    ((judged-fine b l (F .1) .length, (F .1, yes-parts b (q .0) refl)), q .1)
 
+pub exact : (b l t u : List ℕ) → slots b ≤ length t → Screened b l t Yes u ↔ (NoFault b l × Filled b t u)
+exact b l t u room = (yes-says b l t u, back)
+  where
     back : NoFault b l × Filled b t u → Screened b l t Yes u
     back (n, f) = rw (whole b l (length t) room (n .1 .0)) (passed (n .1 .1 .0) (n .1 .1 .1), f)
 

@@ -1,0 +1,48 @@
+-- Registers, and the frame below R10.
+use Prim.Native.Nat.{ℕ, suc, _+_, _-_, _*_, _/_, _%_, _^_}
+use lib.Dec.{eqb}
+use lib.IntN.{ℤ, pos, negsuc}
+use Rattle.wire.specs.Pick.{pick}
+use Rattle.machine.specs.Word.{wrap, word, low}
+
+-- the registers R0 to R9, and the frame in cells of 8 bytes: number i stands at offset −8(i+1) from R10
+pub record Memory : Type 0 where
+  pub regs : ℕ → ℕ
+  pub cells : ℕ → ℕ
+
+-- R10 is no state but a constant
+abbrev pub reg : Memory → ℕ → ℕ
+reg m r = pick (eqb r 10) 512 (m .regs r)
+
+-- f with v at k
+abbrev pub upd : (ℕ → ℕ) → ℕ → ℕ → ℕ → ℕ
+upd f k v i = pick (eqb i k) v (f i)
+
+-- register + offset
+unfoldable pub address : Memory → ℕ → ℤ → ℕ
+address m r off = wrap (reg m r + word off)
+
+-- ---- an access through R10, inside the frame and aligned (rule 35), is a part of one cell
+
+-- the cell at an offset, and the byte of it, lowest first
+unfoldable pub cellOf : ℤ → ℕ
+cellOf (pos n) = 64
+cellOf (negsuc n) = n / 8
+
+unfoldable pub byteOf : ℤ → ℕ
+byteOf (pos n) = 0
+byteOf (negsuc n) = 7 - n % 8
+
+-- w bytes of the cell x from byte p on: all of it, or a part
+unfoldable pub part : ℕ → ℕ → ℕ → ℕ
+part w p x = pick (eqb w 8) x (low w (x / 2 ^ (8 * p)))
+
+-- the cell x with the low w bytes of v there: what lies below, these, and what lies above
+unfoldable pub withPart : ℕ → ℕ → ℕ → ℕ → ℕ
+withPart w p x v = pick (eqb w 8) v (low p x + 2 ^ (8 * p) * (low w v + 2 ^ (8 * w) * (x / 2 ^ (8 * (p + w)))))
+
+unfoldable pub loaded : ℕ → ℤ → (ℕ → ℕ) → ℕ
+loaded w off cells = part w (byteOf off) (cells (cellOf off))
+
+unfoldable pub stored : ℕ → ℤ → (ℕ → ℕ) → ℕ → ℕ → ℕ
+stored w off cells v = upd cells (cellOf off) (withPart w (byteOf off) (cells (cellOf off)) v)

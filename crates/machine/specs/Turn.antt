@@ -1,0 +1,102 @@
+-- One step of RFC 9669: what an instruction shows to the outside, and what it does, given the outside's answer.
+use Prim.Native.Nat.{ℕ, suc, _+_, _*_, _^_}
+use mathlib.Core.List.{List, [], _∷_}
+use lib.Dec.{eqb, leb}
+use lib.IntN.{ℤ, pos, negsuc}
+use Rattle.wire.specs.Pick.{pick}
+use Rattle.wire.specs.Le.{bytesOf}
+use Rattle.insn.specs.Rfc.{width}
+use Rattle.insn.specs.Form.{formOf}
+use Rattle.insn.specs.declared.Insn.{Insn}
+use Rattle.insn.specs.declared.form.Form.{Form}
+use Rattle.insn.specs.declared.form.Form.the-variants.{NoForm, WideLoad, Ldx, Stx, AluImm, AluReg, MovImm, MovReg, Ja, JeqImm, JneImm, Call, Exit}
+use Rattle.shape.specs.Shape.{target}
+use Rattle.machine.specs.Word.{word, low, alu}
+use Rattle.machine.specs.Memory.{Memory, reg, upd, address, loaded, stored}
+
+-- ---- the outside
+
+-- an access through a register other than R10 (a store with its bytes, lowest first); a call with its helper, the registers
+-- R1 to R5 and the frame's cells; a map, named by the relocation of its slot
+pub data Event : Type 0 where
+  load : (address size : ℕ) → Event
+  store : (address size : ℕ) (bytes : List ℕ) → Event
+  call : (helper : ℤ) (arguments : List ℕ) (cells : ℕ → ℕ) → Event
+  map : (slot : ℕ) → Event
+
+-- what comes back: the number of a load, a map or a call; R1 to R5 after a call; what became of the frame by a store or a call
+pub record Answer : Type 0 where
+  pub value : ℕ
+  pub rest : ℕ → ℕ
+  pub frame : (ℕ → ℕ) → ℕ → ℕ
+
+-- ---- what a step does
+
+-- to registers and frame
+pub data Effect : Type 0 where
+  keeps : Effect
+  writes : (register value : ℕ) → Effect
+  frame : (cells : ℕ → ℕ) → Effect
+  calls : Answer → Effect
+
+-- a call sets R0 to R5 and the frame, and nothing else
+unfoldable pub after : Effect → Memory → Memory
+after keeps m = m
+after (writes d v) m = record { regs = upd (m .regs) d v; cells = m .cells }
+after (frame c) m = record { regs = m .regs; cells = c }
+after (calls a) m = record { regs = λ r. pick (leb r 5) (pick (eqb r 0) (a .value) (a .rest r)) (m .regs r); cells = a .frame (m .cells) }
+
+-- it goes on at a slot; or returns a number; or there is no step
+pub data Out : Type 0 where
+  on : (slot : ℕ) → Effect → Out
+  returns : ℕ → Out
+  stuck : Out
+
+-- ---- one step
+
+pub data Turn : Type 0 where
+  quiet : Out → Turn
+  asks : Event → (Answer → Out) → Turn
+
+-- a jump: no slot lies before slot 0
+unfoldable pub jump : ℤ → Out
+jump (pos t) = on t keeps
+jump (negsuc t) = stuck
+
+-- the instruction i at slot s; high is the imm of the slot after it
+unfoldable pub turnOf : Form → Insn → ℤ → ℕ → Memory → Turn
+turnOf NoForm i high s m = quiet stuck
+turnOf WideLoad i high s m =
+    pick (eqb (i .src) 0)
+    (quiet (on (suc (suc s)) (writes (i .dst) (low 4 (word (i .imm)) + 2 ^ 32 * low 4 (word high)))))
+    (asks (map s) (λ a. on (suc (suc s)) (writes (i .dst) (a .value))))
+turnOf (Ldx w) i high s m =
+    pick (eqb (i .src) 10)
+    (quiet (on (suc s) (writes (i .dst) (loaded (width w) (i .off) (m .cells)))))
+    (asks (load (address m (i .src) (i .off)) (width w)) (λ a. on (suc s) (writes (i .dst) (low (width w) (a .value)))))
+turnOf (Stx w) i high s m =
+    pick (eqb (i .dst) 10)
+    (quiet (on (suc s) (frame (stored (width w) (i .off) (m .cells) (reg m (i .src))))))
+    (asks (store (address m (i .dst) (i .off)) (width w) (bytesOf (width w) (reg m (i .src)))) (λ a. on (suc s) (frame (a .frame (m .cells)))))
+turnOf (AluImm o) i high s m = quiet (on (suc s) (writes (i .dst) (alu o (reg m (i .dst)) (word (i .imm)))))
+turnOf (AluReg o) i high s m = quiet (on (suc s) (writes (i .dst) (alu o (reg m (i .dst)) (reg m (i .src)))))
+turnOf MovImm i high s m = quiet (on (suc s) (writes (i .dst) (word (i .imm))))
+turnOf MovReg i high s m = quiet (on (suc s) (writes (i .dst) (reg m (i .src))))
+turnOf Ja i high s m = quiet (jump (target s (i .off)))
+turnOf JeqImm i high s m = quiet (pick (eqb (reg m (i .dst)) (word (i .imm))) (jump (target s (i .off))) (on (suc s) keeps))
+turnOf JneImm i high s m = quiet (pick (eqb (reg m (i .dst)) (word (i .imm))) (on (suc s) keeps) (jump (target s (i .off))))
+turnOf Call i high s m =
+    asks (call (i .imm) (reg m 1 ∷ reg m 2 ∷ reg m 3 ∷ reg m 4 ∷ reg m 5 ∷ []) (m .cells)) (λ a. on (suc s) (calls a))
+turnOf Exit i high s m = quiet (returns (reg m 0))
+
+-- code is an instruction for each slot
+unfoldable pub turn : (ℕ → Insn) → ℕ → Memory → Turn
+turn code s m = turnOf (formOf (code s .code)) (code s) (code (suc s) .imm) s m
+
+-- with an answer, which a quiet step does not look at
+unfoldable pub given : Answer → Turn → Out
+given a (quiet o) = o
+given a (asks e f) = f a
+
+unfoldable pub step : (ℕ → Insn) → Answer → ℕ → Memory → Out
+step code a s m = given a (turn code s m)

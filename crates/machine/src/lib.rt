@@ -1,0 +1,1 @@
+// One step of RFC 9669, as definitions. No code.
