@@ -1,7 +1,7 @@
 -- What small codes do, one table under a single statement.
 use mathlib.Core.Path.{_≡_, refl}
 use mathlib.Core.List.{[], _∷_, _++_}
-use Prim.Native.Nat.{ℕ, _+_, _-_, _/_, _%_, _^_}
+use Prim.Native.Nat.{_+_, _-_, _/_, _%_, _^_}
 use lib.IntN.{pos}
 use Rattle.wire.specs.Le as wireLe
 use Rattle.insn.specs.Form as insnForm
@@ -51,7 +51,7 @@ pub record KnownSteps : Type 0 where
   pub call-leaves : (a : Answer) (m : Memory) → after (calls a) m .regs 6 ≡ m .regs 6
 
 pub known-steps : KnownSteps
-unfolding wireLe.le wireLe.bytesOf wireLe.unsignedAt wireLe.signedAt insnForm.formOf insnForm.sizes insnForm.withConstant insnForm.withRegister insnForm.jumps insnLayout.insnAt insnRfc.sizeField insnRfc.width shapeCode.at shapeShape.target wrap word low alu address cellOf byteOf part withPart loaded stored after jump turnOf turn given step slot compute branch pointer second patched carry outcome
+unfolding wireLe.store wireLe.le wireLe.bytesOf wireLe.unsignedAt wireLe.signedAt insnForm.formOf insnForm.sizes insnForm.withConstant insnForm.withRegister insnForm.jumps insnLayout.insnAt insnRfc.sizeField insnRfc.width shapeCode.at shapeShape.target wrap word low alu address cellOf byteOf part withPart loaded stored after jump turnOf turn given step slot compute branch pointer second patched carry outcome
 known-steps =
     record {
       P1 = λ a m. refl;

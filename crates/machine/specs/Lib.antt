@@ -2,4 +2,5 @@ pub mod Word
 pub mod Memory
 pub mod Turn
 pub mod Run
+pub mod Words
 pub mod Points

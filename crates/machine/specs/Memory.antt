@@ -1,9 +1,10 @@
 -- Registers, and the frame below R10.
-use Prim.Native.Nat.{ℕ, suc, _+_, _-_, _*_, _/_, _%_, _^_}
+use Prim.Native.Nat.{ℕ, _+_, _-_, _/_, _%_}
 use lib.Dec.{eqb}
 use lib.IntN.{ℤ, pos, negsuc}
 use Rattle.wire.specs.Pick.{pick}
-use Rattle.machine.specs.Word.{wrap, word, low}
+use Rattle.wire.specs.Le.{le, bytesOf, store}
+use Rattle.machine.specs.Word.{wrap, word}
 
 -- the registers R0 to R9, and the frame in cells of 8 bytes: number i stands at offset −8(i+1) from R10
 pub record Memory : Type 0 where
@@ -33,13 +34,12 @@ unfoldable pub byteOf : ℤ → ℕ
 byteOf (pos n) = 0
 byteOf (negsuc n) = 7 - n % 8
 
--- w bytes of the cell x from byte p on: all of it, or a part
+-- the number in w bytes of the cell x from byte p on, and x with the low w bytes of v there; 8 bytes are all of it
 unfoldable pub part : ℕ → ℕ → ℕ → ℕ
-part w p x = pick (eqb w 8) x (low w (x / 2 ^ (8 * p)))
+part w p x = pick (eqb w 8) x (le w (bytesOf 8 x) p)
 
--- the cell x with the low w bytes of v there: what lies below, these, and what lies above
 unfoldable pub withPart : ℕ → ℕ → ℕ → ℕ → ℕ
-withPart w p x v = pick (eqb w 8) v (low p x + 2 ^ (8 * p) * (low w v + 2 ^ (8 * w) * (x / 2 ^ (8 * (p + w)))))
+withPart w p x v = pick (eqb w 8) v (le 8 (store (bytesOf 8 x) p (bytesOf w v)) 0)
 
 unfoldable pub loaded : ℕ → ℤ → (ℕ → ℕ) → ℕ
 loaded w off cells = part w (byteOf off) (cells (cellOf off))

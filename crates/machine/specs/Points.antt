@@ -1,6 +1,6 @@
 -- Small codes, and the outcome of a run of so many steps.
 use mathlib.Core.Path.{_≡_}
-use mathlib.Core.List.{List, [], _∷_, _++_}
+use mathlib.Core.List.{List, _∷_, _++_}
 use Prim.Native.Nat.{ℕ, zero, suc, _-_, _^_}
 use Rattle.wire.specs.Le.{bytesOf}
 use Rattle.shape.specs.Code.{at}

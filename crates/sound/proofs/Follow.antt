@@ -1,14 +1,14 @@
 -- One step of the machine goes where a path goes, and writes what the path's mask says.
-use mathlib.Core.Path.{_≡_, refl, sym}
-use mathlib.Core.Bool.{Bool, true, false, true≢false}
+use mathlib.Core.Path.{_≡_, refl}
+use mathlib.Core.Bool.{Bool, true, false}
 use mathlib.Core.Logic.{_↔_}
 use mathlib.Core.List.{List, [], _∷_}
-use Prim.Native.Nat.{ℕ, suc, _+_, _≤_}
+use Prim.Native.Nat.{ℕ, suc, _+_}
 use native.Mathlib.Decide.{ℕ-discrete}
 use native.Mathlib.Numerals.{add-one, add-two}
 use native.Mathlib.Omega.{arith}
 use lib.Dec.{eqb, leb}
-use lib.IntN.{ℤ, pos, negsuc}
+use lib.IntN.{ℤ, pos}
 use borrow.Author.Tests.{eqb-true, leb-true, leb-false, eq-eqb}
 use Rattle.wire.specs.Pick.{pick, either}
 use Rattle.insn.specs.declared.Insn.{Insn}
@@ -32,8 +32,8 @@ unfolding atStart
 tells-first = record { at = λ r. (there r (eqb r 1) refl, back r) }
   where
     there : (r : ℕ) (x : Bool) → eqb r 1 ≡ x → either x (eqb r 10) ≡ true → Written r []
-    there r true q e = context (eqb-true r 1 q)
-    there r false q e = pointer (eqb-true r 10 e)
+    there r true q e = context (omega (arith, eqb-true r 1 q))
+    there r false q e = pointer (omega (arith, eqb-true r 10 e))
 
     back : (r : ℕ) → Written r [] → either (eqb r 1) (eqb r 10) ≡ true
     back r (context e) = rw e

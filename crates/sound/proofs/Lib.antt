@@ -1,2 +1,4 @@
 pub mod Follow
+pub mod OnWay
+pub mod Looks
 pub mod Sound
