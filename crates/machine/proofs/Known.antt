@@ -11,7 +11,7 @@ use Rattle.shape.specs.Code as shapeCode
 use Rattle.shape.specs.Shape as shapeShape
 use Rattle.machine.specs.Word.{wrap, word, low, alu}
 use Rattle.machine.specs.Memory.{Memory, address, cellOf, byteOf, part, withPart, loaded, stored}
-use Rattle.machine.specs.Turn.{load, store, call, map, Answer, keeps, writes, frame, calls, after, on, asks, jump, turnOf, turn, given, step}
+use Rattle.machine.specs.Turn.{load, store, call, Answer, keeps, writes, frame, calls, after, on, maps, shows, jump, turnOf, turn, given, step}
 use Rattle.machine.specs.Points.{slot, minusOne, exit, compute, branch, pointer, second, patched, carry, outcome, Returns}
 
 pub record KnownSteps : Type 0 where
@@ -39,13 +39,13 @@ pub record KnownSteps : Type 0 where
   pub byte-into-cell : Returns patched 5 0xffff00ff
   -- a constant of 64 bits, and a map
   pub constant : Returns (slot 0x18 0 0 1 ++ slot 0 0 0 2 ++ exit) 1 (2 ^ 33 + 1)
-  pub a-map : (m : Memory) → turn (shapeCode.at (slot 0x18 0x10 0 0 ++ slot 0 0 0 0)) 0 m ≡ asks (map 0) (λ a. on 2 (writes 0 (a .value)))
+  pub a-map : (m : Memory) → turn (shapeCode.at (slot 0x18 0x10 0 0 ++ slot 0 0 0 0)) 0 m ≡ maps 0 (λ x. on 2 (writes 0 x))
   -- 4 bytes from r1 + 4; 2 bytes of r2 to r1 − 1; helper 5
-  pub a-load : (m : Memory) → turn (shapeCode.at (slot 0x61 0x10 4 0)) 0 m ≡ asks (load ((m .regs 1 + 4) % 2 ^ 64) 4) (λ a. on 1 (writes 0 (a .value % 2 ^ 32)))
+  pub a-load : (m : Memory) → turn (shapeCode.at (slot 0x61 0x10 4 0)) 0 m ≡ shows (load ((m .regs 1 + 4) % 2 ^ 64) 4) (λ a. on 1 (writes 0 (a .value % 2 ^ 32)))
   pub a-store : (m : Memory) → turn (shapeCode.at (slot 0x6b 0x21 0xffff 0)) 0 m
-      ≡ asks (store ((m .regs 1 + (2 ^ 64 - 1)) % 2 ^ 64) 2 (m .regs 2 % 256 ∷ m .regs 2 / 256 % 256 ∷ [])) (λ a. on 1 (frame (a .frame (m .cells))))
+      ≡ shows (store ((m .regs 1 + (2 ^ 64 - 1)) % 2 ^ 64) 2 (m .regs 2 % 256 ∷ m .regs 2 / 256 % 256 ∷ [])) (λ a. on 1 (frame (a .frame (m .cells))))
   pub a-call : (m : Memory) → turn (shapeCode.at (slot 0x85 0 0 5)) 0 m
-      ≡ asks (call (pos 5) (m .regs 1 ∷ m .regs 2 ∷ m .regs 3 ∷ m .regs 4 ∷ m .regs 5 ∷ []) (m .cells)) (λ a. on 1 (calls a))
+      ≡ shows (call (pos 5) (m .regs 1 ∷ m .regs 2 ∷ m .regs 3 ∷ m .regs 4 ∷ m .regs 5 ∷ []) (m .cells)) (λ a. on 1 (calls a))
   pub call-answers : (a : Answer) (m : Memory) → after (calls a) m .regs 0 ≡ a .value
   pub call-takes : (a : Answer) (m : Memory) → after (calls a) m .regs 5 ≡ a .rest 5
   pub call-leaves : (a : Answer) (m : Memory) → after (calls a) m .regs 6 ≡ m .regs 6

@@ -1,6 +1,5 @@
 -- A step keeps every register and every cell below 2^64.
 use mathlib.Core.Path.{_≡_}
-use mathlib.Core.Bool.{Bool, true, false}
 use mathlib.Core.List.{List}
 use Prim.Native.Nat.{ℕ, suc, _+_, _*_, _%_, _^_, _<_}
 use native.Mathlib.Nat.{div-le-self, mod-le}
@@ -8,7 +7,6 @@ use native.Mathlib.Omega.{arith}
 use lib.Dec.{eqb, leb}
 use lib.IntN.{ℤ, pos, negsuc}
 use mir.Syntax.{w8, w16, w32, w64}
-use Rattle.wire.specs.Pick.{pick}
 use Rattle.wire.specs.Le.{le, bytesOf, store, unsignedBytes}
 use Rattle.wire.proofs.Le.{Bytes, le-below, unsigned-bytes}
 use Rattle.wire.proofs.Store.{store-bytes}
@@ -26,10 +24,7 @@ use Rattle.machine.specs.Word.{wrap, word, low, alu}
 use Rattle.machine.specs.Memory.{Memory, reg, byteOf, cellOf, part, withPart, loaded, stored}
 use Rattle.machine.specs.Turn.{Answer, Effect, keeps, writes, frame, calls, after, Out, on, returns, stuck, Turn, jump, turnOf, turn, given, step}
 use Rattle.machine.specs.Words.{Words, Fitting}
-
-by-test : {A : Type 0} (P : A → Type 0) (x : Bool) (p q : A) → P p → P q → P (pick x p q)
-by-test P true p q a b = a
-by-test P false p q a b = b
+use Rattle.machine.proofs.Tests.{by-test}
 
 abbrev Small : ℕ → Type 0
 Small n = n < 2 ^ 64

@@ -16,15 +16,15 @@ use Rattle.machine.specs.Memory.{Memory, reg, upd, address, loaded, stor
 
 -- ---- the outside
 
--- an access through a register other than R10 (a store with its bytes, lowest first); a call with its helper, the registers
--- R1 to R5 and the frame's cells; a map, named by the relocation of its slot
+-- an access through a register other than R10, a store with its bytes, lowest first; a call with its helper's number, the registers
+-- R1 to R5 and the frame's cells
 pub data Event : Type 0 where
   load : (address size : ℕ) → Event
   store : (address size : ℕ) (bytes : List ℕ) → Event
   call : (helper : ℤ) (arguments : List ℕ) (cells : ℕ → ℕ) → Event
-  map : (slot : ℕ) → Event
 
--- what comes back: the number of a load, a map or a call; R1 to R5 after a call; what became of the frame by a store or a call
+-- what comes back: the number of a load, a map or a call; R1 to R5 after a call; what became of the frame by a call, or by a store
+-- whose address may lie in it
 pub record Answer : Type 0 where
   pub value : ℕ
   pub rest : ℕ → ℕ
@@ -54,30 +54,32 @@ pub data Out : Type 0 where
 
 -- ---- one step
 
+-- it shows nothing; or takes the number of the map that the relocation of its slot names; or shows an event
 pub data Turn : Type 0 where
   quiet : Out → Turn
-  asks : Event → (Answer → Out) → Turn
+  maps : (slot : ℕ) → (ℕ → Out) → Turn
+  shows : Event → (Answer → Out) → Turn
 
 -- a jump: no slot lies before slot 0
 unfoldable pub jump : ℤ → Out
 jump (pos t) = on t keeps
 jump (negsuc t) = stuck
 
--- the instruction i at slot s; high is the imm of the slot after it
+-- the instruction i at slot s, where its unused fields are 0 (rule 34); high is the imm of the slot after it
 unfoldable pub turnOf : Form → Insn → ℤ → ℕ → Memory → Turn
 turnOf NoForm i high s m = quiet stuck
 turnOf WideLoad i high s m =
     pick (eqb (i .src) 0)
     (quiet (on (suc (suc s)) (writes (i .dst) (low 4 (word (i .imm)) + 2 ^ 32 * low 4 (word high)))))
-    (asks (map s) (λ a. on (suc (suc s)) (writes (i .dst) (a .value))))
+    (maps s (λ x. on (suc (suc s)) (writes (i .dst) x)))
 turnOf (Ldx w) i high s m =
     pick (eqb (i .src) 10)
     (quiet (on (suc s) (writes (i .dst) (loaded (width w) (i .off) (m .cells)))))
-    (asks (load (address m (i .src) (i .off)) (width w)) (λ a. on (suc s) (writes (i .dst) (low (width w) (a .value)))))
+    (shows (load (address m (i .src) (i .off)) (width w)) (λ a. on (suc s) (writes (i .dst) (low (width w) (a .value)))))
 turnOf (Stx w) i high s m =
     pick (eqb (i .dst) 10)
     (quiet (on (suc s) (frame (stored (width w) (i .off) (m .cells) (reg m (i .src))))))
-    (asks (store (address m (i .dst) (i .off)) (width w) (bytesOf (width w) (reg m (i .src)))) (λ a. on (suc s) (frame (a .frame (m .cells)))))
+    (shows (store (address m (i .dst) (i .off)) (width w) (bytesOf (width w) (reg m (i .src)))) (λ a. on (suc s) (frame (a .frame (m .cells)))))
 turnOf (AluImm o) i high s m = quiet (on (suc s) (writes (i .dst) (alu o (reg m (i .dst)) (word (i .imm)))))
 turnOf (AluReg o) i high s m = quiet (on (suc s) (writes (i .dst) (alu o (reg m (i .dst)) (reg m (i .src)))))
 turnOf MovImm i high s m = quiet (on (suc s) (writes (i .dst) (word (i .imm))))
@@ -86,7 +88,7 @@ turnOf Ja i high s m = quiet (jump (target s (i .off)))
 turnOf JeqImm i high s m = quiet (pick (eqb (reg m (i .dst)) (word (i .imm))) (jump (target s (i .off))) (on (suc s) keeps))
 turnOf JneImm i high s m = quiet (pick (eqb (reg m (i .dst)) (word (i .imm))) (on (suc s) keeps) (jump (target s (i .off))))
 turnOf Call i high s m =
-    asks (call (i .imm) (reg m 1 ∷ reg m 2 ∷ reg m 3 ∷ reg m 4 ∷ reg m 5 ∷ []) (m .cells)) (λ a. on (suc s) (calls a))
+    shows (call (i .imm) (reg m 1 ∷ reg m 2 ∷ reg m 3 ∷ reg m 4 ∷ reg m 5 ∷ []) (m .cells)) (λ a. on (suc s) (calls a))
 turnOf Exit i high s m = quiet (returns (reg m 0))
 
 -- code is an instruction for each slot
@@ -96,7 +98,8 @@ turn code s m = turnOf (formOf (code s .code)) (code s) (code (suc s) .imm) s m
 -- with an answer, which a quiet step does not look at
 unfoldable pub given : Answer → Turn → Out
 given a (quiet o) = o
-given a (asks e f) = f a
+given a (maps s f) = f (a .value)
+given a (shows e f) = f a
 
 unfoldable pub step : (ℕ → Insn) → Answer → ℕ → Memory → Out
 step code a s m = given a (turn code s m)

@@ -20,7 +20,8 @@ use Rattle.paths.specs.Registers.{Regs, atStart, with, called, after}
 use Rattle.machine.specs.Word.{word}
 use Rattle.machine.specs.Memory.{Memory, reg}
 use Rattle.machine.specs.Turn.{Answer, Effect, keeps, writes, frame, calls, Out, on, returns, stuck, Turn, jump, turnOf, given}
-use Rattle.sound.specs.Written.{Written, Wrote, Spoilt, context, pointer, now, since}
+use Rattle.machine.proofs.Tests.{by-test}
+use Rattle.sound.specs.Written.{Written, Wrote, Took, context, pointer, now, since}
 
 -- ---- a path's mask tells what the run has written
 
@@ -41,7 +42,7 @@ tells-first = record { at = λ r. (there r (eqb r 1) refl, back r) }
 
 module _ {k : Regs} {h : List Effect} (T : Tells k h) where
   -- a step that writes no register, and is no call
-  same : (e : Effect) → ((r : ℕ) → Wrote e r → ⊥) → ((r : ℕ) → Spoilt e r → ⊥) → Tells k (e ∷ h)
+  same : (e : Effect) → ((r : ℕ) → Wrote e r → ⊥) → ((r : ℕ) → Took e r → ⊥) → Tells k (e ∷ h)
   same e none kept = record { at = λ r. (λ q. since (T .at r .0 q) (kept r), back r) }
     where
       back : (r : ℕ) → Written r (e ∷ h) → k r ≡ true
@@ -68,7 +69,7 @@ module _ {k : Regs} {h : List Effect} (T : Tells k h) where
   unfolding called
   has-called a = record { at = λ r. (there r (leb r 5) refl, back r (leb r 5) refl) }
     where
-      above : (r : ℕ) → leb r 5 ≡ false → Spoilt (calls a) r → ⊥
+      above : (r : ℕ) → leb r 5 ≡ false → Took (calls a) r → ⊥
       above r q p = omega (arith, leb-false r 5 q)
 
       there : (r : ℕ) (x : Bool) → leb r 5 ≡ x → pick x (eqb r 0) (k r) ≡ true → Written r (calls a ∷ h)
@@ -98,10 +99,6 @@ Leads f i s (on t e) = Ahead f i s t × ((k : Regs) (h : List Effect) → Tells 
 Leads f i s (returns v) = Unit {0}
 Leads f i s stuck = ⊥
 
-by-test : {A : Type 0} (P : A → Type 0) (x : Bool) (p q : A) → P p → P q → P (pick x p q)
-by-test P true p q a b = a
-by-test P false p q a b = b
-
 module _ (i : Insn) (s : ℕ) where
   one : (f : Form) → uses f .goes-on ≡ 1 → Ahead f i s (suc s)
   one f e = rw (← (add-one s)) (goes e)
@@ -110,7 +107,7 @@ module _ (i : Insn) (s : ℕ) where
   write : (f : Form) → uses f .goes-on ≡ 1 → ((k : Regs) → after f i k ≡ with (i .dst) k) → (v : ℕ) → Leads f i s (on (suc s) (writes (i .dst) v))
   write f n e v = (one f n, λ k h T. rw (e k) (wrote T (i .dst) v))
 
-  keep : (f : Form) → ((k : Regs) → after f i k ≡ k) → (e : Effect) → ((r : ℕ) → Wrote e r → ⊥) → ((r : ℕ) → Spoilt e r → ⊥) → (t : ℕ) → Ahead f i s t → Leads f i s (on t e)
+  keep : (f : Form) → ((k : Regs) → after f i k ≡ k) → (e : Effect) → ((r : ℕ) → Wrote e r → ⊥) → ((r : ℕ) → Took e r → ⊥) → (t : ℕ) → Ahead f i s t → Leads f i s (on t e)
   keep f same-mask e none kept t n = (n, λ k h T. rw (same-mask k) (same T e none kept))
 
   abbrev Lands : Form → Type 0

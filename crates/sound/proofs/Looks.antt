@@ -16,7 +16,7 @@ use Rattle.shape.specs.Code.{at, formAt}
 use Rattle.paths.specs.Registers.{reads}
 use Rattle.machine.specs.Memory.{Memory, reg}
 use Rattle.machine.specs.Turn.{Answer, Effect, keeps, writes, frame, calls, after, Turn, turnOf, turn, given, step}
-use Rattle.sound.specs.Written.{Wrote, Spoilt}
+use Rattle.sound.specs.Written.{Wrote, Took}
 
 same-test : (a : Answer) (x : Bool) (p q p' q' : Turn) → given a p ≡ given a p' → given a q ≡ given a q' → given a (pick x p q) ≡ given a (pick x p' q')
 same-test a true p q p' q' e f = e
@@ -56,7 +56,7 @@ pub looks-at : (b : List ℕ) (s : ℕ) (a : Answer) (m n : Memory) → m .cells
 unfolding step turn formAt
 looks-at b s a m n C h = looks (at b s) (at b (suc s) .imm) s a m n C (formAt b s) h
 
-pub changes : (e : Effect) (m : Memory) (r : ℕ) → (Wrote e r → ⊥) → (Spoilt e r → ⊥) → after e m .regs r ≡ m .regs r
+pub changes : (e : Effect) (m : Memory) (r : ℕ) → (Wrote e r → ⊥) → (Took e r → ⊥) → after e m .regs r ≡ m .regs r
 unfolding after
 changes keeps m r w t = refl
 changes (writes d v) m r w t = go (eqb r d) refl
