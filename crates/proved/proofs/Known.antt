@@ -38,11 +38,11 @@ use Rattle.survey.specs.Surveyed as surveySurveyed
 use Rattle.flow.specs.Computed as flowComputed
 use Rattle.flow.specs.Linked as flowLinked
 use Rattle.flow.specs.Node as flowNode
-use Rattle.tracepoint.specs.Code as tracepointCode
+use Rattle.layout.specs.Code as tracepointCode
 use Rattle.tracepoint.specs.Compile as tracepointCompile
-use Rattle.tracepoint.specs.Emitted as tracepointEmitted
-use Rattle.tracepoint.specs.Jumps as tracepointJumps
-use Rattle.tracepoint.specs.Layout as tracepointLayout
+use Rattle.layout.specs.Emitted as tracepointEmitted
+use Rattle.layout.specs.Jumps as tracepointJumps
+use Rattle.layout.specs.Layout as tracepointLayout
 use Rattle.lower.specs.declared.Reason.the-variants as Re
 use Rattle.tracepoint.specs.declared.Compiled.{Compiled}
 use Rattle.tracepoint.specs.declared.Compiled.the-variants as A

@@ -19,7 +19,7 @@ use Rattle.flow.specs.Node.{among}
 use Rattle.survey.specs.Collected.{collected, all}
 use Rattle.survey.specs.Conditions.{isVar, branchesOn, isCondition}
 use Rattle.survey.proofs.Among.{condition-among}
-use Rattle.tracepoint.specs.Layout.{Context}
+use Rattle.layout.specs.Layout.{Context}
 use Rattle.tracepoint.specs.Inner.{marked, conditionFrom}
 use Rattle.tracepoint.specs.Notes.{Noted}
 use Rattle.tracepoint.proofs.Marks.{both-false}

@@ -11,11 +11,12 @@ use Rattle.unitfile.specs.Unit.{PlacedInstruction, BasicBlock}
 use Rattle.unitfile.proofs.Blocks.{instructionRecord, terminatorRecord, onto, flat}
 use Rattle.lower.specs.Op.{slotsOf}
 use Rattle.survey.specs.Inner.{atEnd}
-use Rattle.tracepoint.specs.Layout.{Context, Laid, laid, _then_, instructions, scratchThrough, block, blocks, ops, slots}
-use Rattle.tracepoint.specs.Jumps.{Jump, jumpsFrom}
-use Rattle.tracepoint.specs.Inner.{keepBy, after, becoming, recordOps, jumping, recordJumps, startAfter, scratchBy, blockBy, startSlots}
+use Rattle.layout.specs.Layout.{Context, Laid, laid, _then_, instructions, scratchThrough, block, blocks, ops, slots}
+use Rattle.layout.specs.Jumps.{Jump, jumpsFrom}
+use Rattle.layout.specs.Inner.{keepBy, scratchBy, blockBy, edges}
+use Rattle.tracepoint.specs.Inner.{after, becoming, recordOps, jumping, recordJumps}
 use Rattle.tracepoint.specs.declared.walk.State.{State}
-use Rattle.tracepoint.proofs.Laid.{nothing-then, then-assoc, Fine, Both, both-fine, slots-then}
+use Rattle.layout.proofs.Laid.{nothing-then, then-assoc, Fine, Both, both-fine, slots-then, no-slots}
 
 abbrev pub in-block : ℕ → Bool → ℕ → State
 in-block k t j = record { block = k; emits = t; scratch = j }
@@ -31,21 +32,16 @@ flatJumps c e st s (p ∷ ps) =
     recordJumps c st (p .place) s (p .value)
     ++ flatJumps c e (after e st (p .value)) (s + slots (recordOps c st (p .place) (p .value))) ps
 
--- after a block that began at a slot
-unfoldable pub flatStarts : Context → (ℕ → Bool) → State → ℕ → ℕ → List Placed → List ℕ
-flatStarts c e st start s [] = []
-flatStarts c e st start s (p ∷ ps) =
-    atEnd start (p .value)
-    ++ flatStarts c e (after e st (p .value)) (startAfter start s (p .value)) (s + slots (recordOps c st (p .place) (p .value))) ps
+-- the slot after each block
+unfoldable pub flatEnds : Context → (ℕ → Bool) → State → ℕ → List Placed → List ℕ
+flatEnds c e st s [] = []
+flatEnds c e st s (p ∷ ps) =
+    atEnd (s + slots (recordOps c st (p .place) (p .value))) (p .value)
+    ++ flatEnds c e (after e st (p .value)) (s + slots (recordOps c st (p .place) (p .value))) ps
 
 silent : (t : Bool) (x : Laid) → (pick t (laid []) (laid []) then x) ≡ x
 silent true x = nothing-then x
 silent false x = nothing-then x
-
-pub no-slots : (t : Bool) (s : ℕ) → s + slots (pick t (laid []) (laid [])) ≡ s
-unfolding slots ops slotsOf
-no-slots true s = add-zero s
-no-slots false s = add-zero s
 
 no-jumps : (t : Bool) (l : List Jump) → pick t [] [] ++ l ≡ l
 no-jumps true l = refl
@@ -76,17 +72,17 @@ module _ (c : Context) (e : ℕ → Bool) where
   silent-jumps k j s [] l = refl
   silent-jumps k j s (i ∷ is) l = silent-jumps k j _ is l ∙ ap (λ (n : ℕ). flatJumps c e (in-block k false j) n l) (no-slots false s)
 
-  emitted-starts : (k j start s : ℕ) (is : List PlacedInstruction) (l : List Placed) → Fine (instructions c j is) → flatStarts c e (in-block k true j) start s (map instructionRecord is ++ l) ≡ flatStarts c e (in-block k true (scratchThrough j is)) start (s + slots (instructions c j is)) l
-  unfolding flatStarts atEnd startAfter recordOps becoming after instructions scratchThrough
-  emitted-starts k j start s [] l f = ap (λ (n : ℕ). flatStarts c e (in-block k true j) start n l) (sym (no-slots true s))
-  emitted-starts k j start s (i ∷ is) l f =
-      emitted-starts k _ start _ is l (both-fine _ _ f .second)
-      ∙ ap (λ (n : ℕ). flatStarts c e (in-block k true (scratchThrough j (i ∷ is))) start n l) (add-assoc s _ _ ∙ ap (λ (n : ℕ). s + n) (sym (slots-then _ _ f)))
+  emitted-ends : (k j s : ℕ) (is : List PlacedInstruction) (l : List Placed) → Fine (instructions c j is) → flatEnds c e (in-block k true j) s (map instructionRecord is ++ l) ≡ flatEnds c e (in-block k true (scratchThrough j is)) (s + slots (instructions c j is)) l
+  unfolding flatEnds atEnd recordOps becoming after instructions scratchThrough
+  emitted-ends k j s [] l f = ap (λ (n : ℕ). flatEnds c e (in-block k true j) n l) (sym (no-slots true s))
+  emitted-ends k j s (i ∷ is) l f =
+      emitted-ends k _ _ is l (both-fine _ _ f .second)
+      ∙ ap (λ (n : ℕ). flatEnds c e (in-block k true (scratchThrough j (i ∷ is))) n l) (add-assoc s _ _ ∙ ap (λ (n : ℕ). s + n) (sym (slots-then _ _ f)))
 
-  silent-starts : (k j start s : ℕ) (is : List PlacedInstruction) (l : List Placed) → flatStarts c e (in-block k false j) start s (map instructionRecord is ++ l) ≡ flatStarts c e (in-block k false j) start s l
-  unfolding flatStarts atEnd startAfter recordOps after
-  silent-starts k j start s [] l = refl
-  silent-starts k j start s (i ∷ is) l = silent-starts k j start _ is l ∙ ap (λ (n : ℕ). flatStarts c e (in-block k false j) start n l) (no-slots false s)
+  silent-ends : (k j s : ℕ) (is : List PlacedInstruction) (l : List Placed) → flatEnds c e (in-block k false j) s (map instructionRecord is ++ l) ≡ flatEnds c e (in-block k false j) s l
+  unfolding flatEnds atEnd recordOps after
+  silent-ends k j s [] l = refl
+  silent-ends k j s (i ∷ is) l = silent-ends k j _ is l ∙ ap (λ (n : ℕ). flatEnds c e (in-block k false j) n l) (no-slots false s)
 
   -- ---- a block after its block record
 
@@ -106,12 +102,12 @@ module _ (c : Context) (e : ℕ → Bool) where
         ∙ ap (λ (n : ℕ). jumping c (b .ending) (s + slots (instructions c j (b .instructions))) (R.Terminator (b .terminator)) ++ flatJumps c e (in-block (suc k) true (scratchThrough j (b .instructions))) n l) (add-assoc s _ _ ∙ ap (λ (n : ℕ). s + n) (sym (slots-then _ _ f)))
     body-jumps false s f = silent-jumps k j s (b .instructions) _
 
-    body-starts : (t : Bool) (start s : ℕ) → Fine (blockBy c t j b) → flatStarts c e (in-block k t j) start s body ≡ start ∷ flatStarts c e (in-block (suc k) t (scratchBy t j b)) start (s + slots (blockBy c t j b)) l
-    unfolding flatStarts atEnd startAfter recordOps becoming after block blockBy scratchBy
-    body-starts true start s f =
-        emitted-starts k j start s (b .instructions) _ (both-fine _ _ f .first)
-        ∙ ap (λ (n : ℕ). start ∷ flatStarts c e (in-block (suc k) true (scratchThrough j (b .instructions))) start n l) (add-assoc s _ _ ∙ ap (λ (n : ℕ). s + n) (sym (slots-then _ _ f)))
-    body-starts false start s f = silent-starts k j start s (b .instructions) _
+    body-ends : (t : Bool) (s : ℕ) → Fine (blockBy c t j b) → flatEnds c e (in-block k t j) s body ≡ (s + slots (blockBy c t j b)) ∷ flatEnds c e (in-block (suc k) t (scratchBy t j b)) (s + slots (blockBy c t j b)) l
+    unfolding flatEnds atEnd recordOps becoming after block blockBy scratchBy
+    body-ends true s f =
+        emitted-ends k j s (b .instructions) _ (both-fine _ _ f .first)
+        ∙ ap (λ (n : ℕ). n ∷ flatEnds c e (in-block (suc k) true (scratchThrough j (b .instructions))) n l) (add-assoc s _ _ ∙ ap (λ (n : ℕ). s + n) (sym (slots-then _ _ f)))
+    body-ends false s f = silent-ends k j s (b .instructions) _
 
   -- ---- the blocks
 
@@ -133,7 +129,7 @@ module _ (c : Context) (e : ℕ → Bool) where
       ∙ ap (λ (x : Laid). blockBy c (e k) j b then x) (ops-flat (suc k) (scratchBy (e k) j b) (e k) bs)
       ∙ blocks-by (e k) j b (keepBy e (suc k) bs)
 
-  fine-both : (k j : ℕ) (t : Bool) (b : BasicBlock) (bs : List BasicBlock) → Fine (blocks c j (keepBy e k (b ∷ bs))) → Both (blockBy c (e k) j b) (blocks c (scratchBy (e k) j b) (keepBy e (suc k) bs))
+  pub fine-both : (k j : ℕ) (t : Bool) (b : BasicBlock) (bs : List BasicBlock) → Fine (blocks c j (keepBy e k (b ∷ bs))) → Both (blockBy c (e k) j b) (blocks c (scratchBy (e k) j b) (keepBy e (suc k) bs))
   unfolding keepBy
   fine-both k j t b bs f = both-fine _ _ (subst Fine (sym (blocks-by (e k) j b (keepBy e (suc k) bs))) f)
 
@@ -148,11 +144,12 @@ module _ (c : Context) (e : ℕ → Bool) where
       ∙ ap (λ (x : List Jump). pick (e k) (jumping c (b .ending) (s + slots (instructions c j (b .instructions))) (R.Terminator (b .terminator))) [] ++ x) (jumps-flat (suc k) (scratchBy (e k) j b) (s + slots (blockBy c (e k) j b)) (e k) bs (f2 .second))
       ∙ jumps-by (e k) j s b (keepBy e (suc k) bs)
 
-  pub starts-flat : (k j start s : ℕ) (t : Bool) (bs : List BasicBlock) → Fine (blocks c j (keepBy e k bs)) → flatStarts c e (in-block k t j) start s (flat bs) ≡ startSlots c e k j s bs
-  unfolding flatStarts atEnd startAfter recordOps becoming after flat onto startSlots
-  starts-flat k j start s t [] f = refl
-  starts-flat k j start s t (b ∷ bs) f =
+  pub ends-flat : (k j s : ℕ) (t : Bool) (bs : List BasicBlock) → Fine (blocks c j (keepBy e k bs)) → s ∷ flatEnds c e (in-block k t j) s (flat bs) ≡ edges c e k j s bs
+  unfolding flatEnds atEnd recordOps becoming after flat onto edges
+  ends-flat k j s t [] f = refl
+  ends-flat k j s t (b ∷ bs) f =
       let f2 = fine-both k j t b bs f in
-      ap (λ (n : ℕ). flatStarts c e (in-block k (e k) j) s n (body k j b (flat bs))) (no-slots t s)
-      ∙ body-starts k j b (flat bs) (e k) s s (f2 .first)
-      ∙ ap (λ (x : List ℕ). s ∷ x) (starts-flat (suc k) (scratchBy (e k) j b) s (s + slots (blockBy c (e k) j b)) (e k) bs (f2 .second))
+      ap (λ (x : List ℕ). s ∷ x)
+      (ap (λ (n : ℕ). flatEnds c e (in-block k (e k) j) n (body k j b (flat bs))) (no-slots t s)
+      ∙ body-ends k j b (flat bs) (e k) s (f2 .first)
+      ∙ ends-flat (suc k) (scratchBy (e k) j b) (s + slots (blockBy c (e k) j b)) (e k) bs (f2 .second))

@@ -97,7 +97,7 @@ count-length (R.Block id) = refl
 count-length (R.Instruction i) = refl
 count-length (R.Terminator t) = refl
 
-pair-length : (r : Record) → length (recordPair r) ≡ 2 * length (atEnd 0 r)
+pub pair-length : (r : Record) → length (recordPair r) ≡ 2 * length (atEnd 0 r)
 unfolding recordPair atEnd
 pair-length (R.Head h) = refl
 pair-length (R.Map start len) = refl

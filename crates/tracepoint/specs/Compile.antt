@@ -13,13 +13,13 @@ use Rattle.frame.specs.Cell.{frameOf}
 use Rattle.unitfile.specs.Unit.{UnitIr, BasicBlock, Parsed, parsed, refused, parse}
 use Rattle.survey.specs.Collected.{Collected, all, tooMany, collected}
 use Rattle.survey.specs.Conditions.{isCondition}
-use Rattle.tracepoint.specs.Emitted.{emitted}
+use Rattle.layout.specs.Emitted.{emitted}
 use Rattle.lower.specs.Op.{Op, slotsOf}
 use Rattle.lower.specs.declared.Reason.{Reason}
 use Rattle.lower.specs.declared.Reason.the-variants as Re
-use Rattle.tracepoint.specs.Layout.{Context, Laid, laid, refusedAt, unitOps}
-use Rattle.tracepoint.specs.Jumps.{Start, Landing, lands, noTarget, tooFar, starts, jumps, landing}
-use Rattle.tracepoint.specs.Code.{insns, codeBytes, relocations}
+use Rattle.layout.specs.Layout.{Context, Laid, laid, refusedAt, unitOps}
+use Rattle.layout.specs.Jumps.{Start, Landing, lands, noTarget, tooFar, starts, jumps, landing}
+use Rattle.layout.specs.Code.{insns, codeBytes, relocations}
 use Rattle.tracepoint.specs.declared.Fault.{Fault}
 use Rattle.tracepoint.specs.declared.Fault.the-variants as F
 use Rattle.tracepoint.specs.declared.Compiled.{Compiled}

@@ -1,7 +1,7 @@
-pub mod Emitted
-pub mod Layout
-pub mod Jumps
-pub mod Code
 pub mod Compile
 pub mod Inner
 pub mod Notes
+pub mod Stages
+pub mod Tables
+pub mod Landed
+pub mod Put

@@ -1,12 +1,18 @@
 // From a unit's bytes to instruction bytes and relocations.
+mod compile;
 mod context;
+mod jumps;
+mod measure;
 mod walk;
+mod write;
 
 use lower::Reason;
+use survey::Survey;
 use wire::refusal::Refusal;
 ghost use mathlib.Core.Path.{_≡_};
 ghost use lib.IntN.{pos};
-ghost use Rattle.tracepoint.specs.Compile.{told, refusalOf, reasonRefusal};
+ghost use lib.ListN.{length};
+ghost use Rattle.tracepoint.specs.Compile.{told, refusalOf, reasonRefusal, compileAnswer, compileCode, compileRelocs};
 
 // Why a unit is not compiled.
 pub enum Fault {
@@ -70,5 +76,25 @@ pub fn refusal(f: Fault) -> Refusal
         Fault::TooFar(place, id) => told_number(19, place, id),
         Fault::CodeRoom(needed) => told_number(21, 0, needed),
         Fault::RelocRoom(needed) => told_number(22, 0, needed),
+    }
+}
+
+// ---- a unit's bytes to code and relocations
+
+// The code fills the front of its buffer, the relocations' pairs of byte offset and map number that of theirs; a refused call changes neither.
+pub fn compile_tracepoint(unit: &[u8], code: &mut [u8], relocs: &mut [u32]) -> Compiled
+    ensures { λ r. ⌜ r ≡ compileAnswer (now (unit .entry)) (length (now (code .entry))) (length (now (relocs .entry))) ⌝ }
+    ensures { λ _. ⌜ now (code .exit) ≡ compileCode (now (unit .entry)) (now (code .entry)) (length (now (relocs .entry))) ⌝ }
+    ensures { λ _. ⌜ now (relocs .exit) ≡ compileRelocs (now (unit .entry)) (length (now (code .entry))) (now (relocs .entry)) ⌝ }
+{
+    let mut variables = [0u32; 56];
+    let mut ids = [0u32; 1024];
+    let mut endings = [0u32; 1024];
+    match survey::survey_unit(unit, &mut variables, &mut ids, &mut endings) {
+        Survey::Refused(f) => Compiled::Refused(Fault::Reading(f)),
+        Survey::TooMany(place) => Compiled::Refused(Fault::Variables(place)),
+        Survey::Unit(found, n) => {
+            compile::compile_surveyed(unit, found, &variables[0..n], &ids, &endings, code, relocs)
+        }
     }
 }

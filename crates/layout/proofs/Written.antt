@@ -9,9 +9,9 @@ use Rattle.insn.specs.Layout.{bytesOf}
 use Rattle.insn.specs.declared.Insn.{Insn}
 use Rattle.insn.proofs.Pieces.{bytes-length}
 use Rattle.lower.specs.Op.{Op, plain, map, ja, jne, slotsOf}
-use Rattle.tracepoint.specs.Jumps.{Start}
-use Rattle.tracepoint.specs.Code.{insns, codeBytes, relocations}
-use Rattle.tracepoint.specs.Inner.{mapsOf}
+use Rattle.layout.specs.Jumps.{Start}
+use Rattle.layout.specs.Code.{insns, codeBytes, relocations}
+use Rattle.layout.specs.Inner.{mapsOf}
 
 module _ (xs : List Start) where
   pub insns-append : (s : ℕ) (a b : List Op) → insns xs s (a ++ b) ≡ insns xs s a ++ insns xs (s + slotsOf a) b

@@ -14,11 +14,11 @@ use Rattle.survey.specs.Surveyed.{ids}
 use Rattle.survey.proofs.Flat.{ids-count}
 use Rattle.flow.specs.Linked.{numberFrom}
 use Rattle.flow.proofs.Numbers.{Here, Nowhere, number-law}
-use Rattle.tracepoint.specs.Layout.{Context, slots}
-use Rattle.tracepoint.specs.Jumps.{Start, startsFrom, Target, to, nowhere, orThis, lastStart}
-use Rattle.tracepoint.specs.Inner.{keepBy, scratchBy, blockBy, startSlots}
-use Rattle.tracepoint.proofs.Flat.{no-slots}
-use Rattle.tracepoint.proofs.Keep.{Agree, agree-first, agree-rest}
+use Rattle.layout.specs.Layout.{Context, slots}
+use Rattle.layout.specs.Jumps.{Start, startsFrom, Target, to, nowhere, orThis, lastStart}
+use Rattle.layout.specs.Inner.{keepBy, scratchBy, blockBy, edges}
+use Rattle.layout.proofs.Laid.{no-slots}
+use Rattle.layout.proofs.Keep.{Agree, agree-first, agree-rest}
 
 -- every block, emitted or not
 unfoldable zipped : List ℕ → List ℕ → List Start
@@ -54,8 +54,8 @@ module _ (c : Context) (e reached : ℕ → Bool) (id : ℕ) where
   starts-by true j s b bs = refl
   starts-by false j s b bs = ap (λ (n : ℕ). startsFrom c j n bs) (sym (no-slots false s))
 
-  all-starts : (k j s : ℕ) (bs : List BasicBlock) → Agree e reached k bs → lastStart (startsFrom c j s (keepBy e k bs)) id ≡ pick (reached id) (lastStart (zipped (ids bs) (startSlots c e k j s bs)) id) nowhere
-  unfolding keepBy startsFrom lastStart zipped startSlots ids
+  all-starts : (k j s : ℕ) (bs : List BasicBlock) → Agree e reached k bs → lastStart (startsFrom c j s (keepBy e k bs)) id ≡ pick (reached id) (lastStart (zipped (ids bs) (edges c e k j s bs)) id) nowhere
+  unfolding keepBy startsFrom lastStart zipped edges ids
   all-starts k j s [] a = none-either (reached id)
   all-starts k j s (b ∷ bs) a =
       ap (λ (xs : List Start). lastStart xs id) (starts-by (e k) j s b (keepBy e (suc k) bs))
@@ -71,7 +71,7 @@ zipped-nowhere (i ∷ is) (s ∷ ss) id n =
     ap (λ (y : Target). orThis y (record { id = i; slot = s }) id) (zipped-nowhere is ss id (record { never = λ j l q. n .never (suc j) (omega arith) q }))
     ∙ or-other nowhere _ id (λ q. n .never 0 (omega arith) q)
 
-zipped-here : (is ss : List ℕ) (id k : ℕ) → length ss ≡ length is → Here is id k → lastStart (zipped is ss) id ≡ to (getD ss k 0)
+zipped-here : (is ss : List ℕ) (id k : ℕ) → length is ≤ length ss → Here is id k → lastStart (zipped is ss) id ≡ to (getD ss k 0)
 unfolding zipped lastStart orThis
 zipped-here [] ss id k h n = absurd (omega (arith, n .inside))
 zipped-here (i ∷ is) [] id k h n = absurd (omega arith)
@@ -81,31 +81,31 @@ zipped-here (i ∷ is) (s ∷ ss) id zero h n =
 zipped-here (i ∷ is) (s ∷ ss) id (suc k) h n =
     ap (λ (y : Target). orThis y (record { id = i; slot = s }) id) (zipped-here is ss id k (omega arith) (record { inside = omega (arith, n .inside); there = n .there; last = λ j l m q. n .last (suc j) (omega arith) (omega arith) q }))
 
-pub slots-count : (c : Context) (e : ℕ → Bool) (k j s : ℕ) (bs : List BasicBlock) → length (startSlots c e k j s bs) ≡ length bs
-unfolding startSlots
-slots-count c e k j s [] = refl
-slots-count c e k j s (b ∷ bs) = ap suc (slots-count c e (suc k) _ _ bs)
+pub edges-count : (c : Context) (e : ℕ → Bool) (k j s : ℕ) (bs : List BasicBlock) → length (edges c e k j s bs) ≡ suc (length bs)
+unfolding edges
+edges-count c e k j s [] = refl
+edges-count c e k j s (b ∷ bs) = ap suc (edges-count c e (suc k) _ _ bs)
 
 module _ (c : Context) (e reached : ℕ → Bool) (j s : ℕ) (bs : List BasicBlock) (a : Agree e reached 0 bs) (few : length bs ≤ 1024) (past : e 1024 ≡ false) (id : ℕ) where
   abbrev number : ℕ
   number = numberFrom 0 (ids bs) id
 
   abbrev Lands : Type 0
-  Lands = lastStart (startsFrom c j s (keepBy e 0 bs)) id ≡ pick (e number) (to (getD (startSlots c e 0 j s bs) number 0)) nowhere
+  Lands = lastStart (startsFrom c j s (keepBy e 0 bs)) id ≡ pick (e number) (to (getD (edges c e 0 j s bs) number 0)) nowhere
 
   when-here : Here (ids bs) id number → Lands
   when-here h =
       let f = ap e (sym (zero-add number)) ∙ a .at number (omega (arith, h .inside, ids-count bs)) ∙ ap reached (h .there) in
       all-starts c e reached id 0 j s bs a
-      ∙ ap (λ (y : Target). pick (reached id) y nowhere) (zipped-here (ids bs) _ id number (slots-count c e 0 j s bs ∙ sym (ids-count bs)) h)
-      ∙ ap (λ (t : Bool). pick t (to (getD (startSlots c e 0 j s bs) number 0)) nowhere) (sym f)
+      ∙ ap (λ (y : Target). pick (reached id) y nowhere) (zipped-here (ids bs) _ id number (omega (arith, edges-count c e 0 j s bs, ids-count bs)) h)
+      ∙ ap (λ (t : Bool). pick t (to (getD (edges c e 0 j s bs) number 0)) nowhere) (sym f)
 
   when-nowhere : number ≡ 1024 → Nowhere (ids bs) id → Lands
   when-nowhere q n =
       all-starts c e reached id 0 j s bs a
       ∙ ap (λ (y : Target). pick (reached id) y nowhere) (zipped-nowhere (ids bs) _ id n)
       ∙ sym (none-either (reached id))
-      ∙ ap (λ (t : Bool). pick t (to (getD (startSlots c e 0 j s bs) number 0)) nowhere) (sym past ∙ ap e (sym q))
+      ∙ ap (λ (t : Bool). pick t (to (getD (edges c e 0 j s bs) number 0)) nowhere) (sym past ∙ ap e (sym q))
 
   -- a target's slot, by the number of the last block that has the id
   pub located : Lands

@@ -9,7 +9,7 @@ use Rattle.unitfile.specs.Unit.{BasicBlock}
 use Rattle.lower.specs.Op.{Op, plain, map, ja, jne, slotsOf}
 use Rattle.lower.specs.Operand.{fits16}
 use Rattle.lower.specs.Terminator.{terminator}
-use Rattle.tracepoint.specs.Layout.{Context, at, ops, slots, instructions, scratchThrough, block}
+use Rattle.layout.specs.Layout.{Context, at, ops, slots, instructions, scratchThrough, block}
 
 -- the slot at which each emitted block begins, from slot s and scratch j on
 pub record Start : Type 0 where

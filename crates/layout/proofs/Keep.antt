@@ -7,8 +7,8 @@ use native.Mathlib.Omega.{arith}
 use lib.ListN.{length, getD}
 use Rattle.unitfile.specs.Unit.{BasicBlock}
 use Rattle.survey.specs.Surveyed.{ids}
-use Rattle.tracepoint.specs.Emitted.{keep}
-use Rattle.tracepoint.specs.Inner.{keepBy}
+use Rattle.layout.specs.Emitted.{keep}
+use Rattle.layout.specs.Inner.{keepBy}
 
 -- from number k on, e tells of each block whether its id is reached
 pub record Agree (e reached : ℕ → Bool) (k : ℕ) (bs : List BasicBlock) : Type 0 where

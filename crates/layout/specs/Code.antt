@@ -8,7 +8,7 @@ use Rattle.insn.specs.Layout.{bytesOf}
 use Rattle.insn.specs.declared.Insn.{Insn}
 use Rattle.insn.specs.declared.form.Form.the-variants.{WideLoad, Ja, JneImm}
 use Rattle.lower.specs.Op.{Op, plain, map, ja, jne}
-use Rattle.tracepoint.specs.Jumps.{Start, Target, to, nowhere, lastStart, distance}
+use Rattle.layout.specs.Jumps.{Start, Target, to, nowhere, lastStart, distance}
 
 -- the distance to the last emitted block with an id
 unfoldable pub distanceTo : Target → ℕ → ℤ

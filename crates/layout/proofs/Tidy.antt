@@ -34,7 +34,7 @@ use Rattle.lower.specs.declared.Reason.{Reason}
 use Rattle.lower.specs.declared.MapUse.{MapUse}
 use Rattle.lower.specs.declared.MapUse.the-variants as U
 use Rattle.lower.specs.declared.Emitted.{Emitted}
-use Rattle.tracepoint.specs.Inner.{plainOps, made}
+use Rattle.layout.specs.Inner.{plainOps, made}
 
 data Plain : Lowered → Type 0 where
   some : (is : List Insn) → Plain (becomes (plainOps is))

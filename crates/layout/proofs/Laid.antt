@@ -1,10 +1,13 @@
 -- Operations laid one after the other.
 use mathlib.Core.Path.{_≡_, refl, sym, ap, _∙_}
+use mathlib.Core.Bool.{Bool, true, false}
 use mathlib.Core.List.{List, [], _∷_, _++_, append-assoc}
 use Prim.Native.Nat.{ℕ, _+_}
+use native.Mathlib.Nat.{add-zero}
 use native.Mathlib.Omega.{arith}
+use Rattle.wire.specs.Pick.{pick}
 use Rattle.lower.specs.Op.{Op, plain, map, ja, jne, slotsOf}
-use Rattle.tracepoint.specs.Layout.{Laid, laid, refusedAt, _then_, ops, slots}
+use Rattle.layout.specs.Layout.{Laid, laid, refusedAt, _then_, ops, slots}
 
 pub nothing-then : (x : Laid) → (laid [] then x) ≡ x
 unfolding _then_
@@ -56,3 +59,9 @@ slots-append (jne to ∷ a) b = let h = slots-append a b in omega arith
 pub slots-then : (x y : Laid) → Fine (x then y) → slots (x then y) ≡ slots x + slots y
 unfolding slots
 slots-then x y f = ap slotsOf (both-fine x y f .ops) ∙ slots-append (ops x) (ops y)
+
+-- what is not emitted takes no slot
+pub no-slots : (t : Bool) (s : ℕ) → s + slots (pick t (laid []) (laid [])) ≡ s
+unfolding slots ops slotsOf
+no-slots true s = add-zero s
+no-slots false s = add-zero s
