@@ -1,4 +1,5 @@
 // Codes, screened: the verdict, and the table after the call.
+use crate::hash;
 use crate::input;
 use crate::input::Next;
 use crate::output;
@@ -120,30 +121,6 @@ fn fill(table: &mut [u16]) {
     }
 }
 
-// A hash so far times FNV's prime 2^40 + 435, modulo 2^64.
-fn times_prime(h: u64) -> u64 {
-    let low = h % 4294967296 * 435;
-    let high = h / 4294967296 * 435 % 4294967296 * 4294967296;
-    let top = h % 16777216 * 1099511627776;
-    std::num::wrapping_add_u64(std::num::wrapping_add_u64(low, high), top)
-}
-
-fn hashed(h: u64, byte: u16) -> u64 {
-    times_prime(h ^ (byte as u64))
-}
-
-fn hash(table: &[u16]) -> u64 {
-    let mut h: u64 = 14695981039346656037;
-    let mut i = 0;
-    while i < table.len() {
-        let x = table[i];
-        h = hashed(h, x % 256);
-        h = hashed(h, x / 256);
-        i += 1;
-    }
-    h
-}
-
 fn wide(x: u16) -> u64 {
     x as u64
 }
@@ -164,7 +141,7 @@ fn told(table: &[u16]) {
         entries(table);
     } else {
         output::word(b"fnv1a ");
-        output::hex_of(hash(table), 16);
+        output::hex_of(hash::numbers(table), 16);
     }
     output::word(b"\n");
 }

@@ -1,6 +1,8 @@
 // Replays the stored lists of data/, each case through the public functions, and prints each answer.
 mod codes;
+mod hash;
 mod input;
+mod lowering;
 mod output;
 mod records;
 mod units;
@@ -9,4 +11,5 @@ fn main() {
     units::replay();
     records::replay();
     codes::replay();
+    lowering::replay();
 }

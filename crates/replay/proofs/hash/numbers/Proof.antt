@@ -1,16 +1,16 @@
--- `hash` goes through the table: the measure is what is left of it.
+-- `numbers` goes through the list: the measure is what is left of it.
 use borrow.Author.Needs.{needs}
 use Prim.Native.Nat.{_≤_, _-_}
 use lib.ListN.{length}
 use native.Mathlib.Omega.{arith}
-use Rattle.replay.proofs.codes.hash.Statement.{statement}
-use Rattle.replay.proofs.codes.hash.Tie as tie
+use Rattle.replay.proofs.hash.numbers.Statement.{statement}
+use Rattle.replay.proofs.hash.numbers.Tie as tie
 
 abbrev Inv-loop : tie.InvT-loop
-Inv-loop table h₀ i₀ h i = i ≤ length table
+Inv-loop list h₀ i₀ h i = i ≤ length list
 
 abbrev μ-loop : tie.MeasureT-loop
-μ-loop table h₀ i₀ h i = length table - i
+μ-loop list h₀ i₀ h i = length list - i
 
 loop-holds : tie.Need-loop-holds Inv-loop μ-loop
 loop-holds c = omega arith
@@ -21,11 +21,17 @@ mul-x c = omega arith
 shared-slice-read-x : tie.Need-shared-slice-read-x Inv-loop μ-loop
 shared-slice-read-x c = search needs
 
-hashed-requires : tie.Need-hashed-requires Inv-loop μ-loop
-hashed-requires c κs = search needs
+low-requires : tie.Need-low-requires Inv-loop μ-loop
+low-requires c κs = search needs
 
-hashed-requires-2 : tie.Need-hashed-requires-2 Inv-loop μ-loop
-hashed-requires-2 c κs = search needs
+with-requires : tie.Need-with-requires Inv-loop μ-loop
+with-requires c κs = search needs
+
+high-requires : tie.Need-high-requires Inv-loop μ-loop
+high-requires c κs = search needs
+
+with-requires-2 : tie.Need-with-requires-2 Inv-loop μ-loop
+with-requires-2 c κs = search needs
 
 add-i : tie.Need-add-i Inv-loop μ-loop
 add-i c = omega arith
@@ -39,8 +45,8 @@ loop-again c = omega arith
 returns : tie.Need-returns Inv-loop μ-loop
 returns c = search needs
 
-pub hash-spec : {M : Type 1} → statement M
-hash-spec =
+pub numbers-spec : {M : Type 1} → statement M
+numbers-spec =
     tie.close
     (tie.spec
     Inv-loop
@@ -48,8 +54,10 @@ hash-spec =
     loop-holds
     mul-x
     shared-slice-read-x
-    hashed-requires
-    hashed-requires-2
+    low-requires
+    with-requires
+    high-requires
+    with-requires-2
     add-i
     loop-less
     loop-again
