@@ -2,11 +2,10 @@
 use mathlib.Core.Path.{_≡_, refl, sym, ap, _∙_}
 use mathlib.Core.Bool.{Bool, true, false}
 use mathlib.Core.List.{List, [], _∷_, _++_}
-use Prim.Native.Nat.{ℕ, suc, _+_, _-_, _≤_}
+use Prim.Native.Nat.{ℕ, suc, _+_, _-_}
 use native.Mathlib.Nat.{add-assoc}
 use native.Mathlib.Omega.{arith}
 use lib.IntN.{ℤ, pos}
-use lib.ListN.{length}
 use Rattle.wire.specs.Pick.{pick}
 use Rattle.ir.specs.declared.Operand.{Operand}
 use Rattle.ir.specs.declared.Operand.the-variants.{Var, Immediate}
@@ -22,7 +21,6 @@ use Rattle.lower.specs.Op.{plain, ja, jne, Lowered, becomes, refused, insn, _�
 use Rattle.lower.specs.Operand.{fits32, constant, onCell, load}
 use Rattle.lower.specs.Terminator.{terminator}
 use Rattle.lower.specs.declared.Reason.{Reason}
-use Rattle.layout.specs.Emitted.{targets}
 use Rattle.layout.specs.Layout.{Context, Laid, at, ops, slots, instructions, block}
 use Rattle.layout.specs.Jumps.{Jump, jas, jnes, patches, jumpsFrom, Start, Landing, lands, noTarget, tooFar, orRest, onTarget, lastStart, landing}
 use Rattle.layout.specs.Inner.{scratchBy, blockBy}
@@ -56,36 +54,30 @@ patched place past (T.Jump target) = record { place = place; own = past - 1; id 
 patched place past (T.Branch o to other) =
     record { place = place; own = past - 1; id = other } ∷ record { place = place; own = past - 2; id = to } ∷ []
 
-record Ends (place s : ℕ) (t : Terminator) (x : Laid) : Type 0 where
-  room : length (targets t) ≤ slots x
-  jumps : patches place s (ops x) ≡ patched place (s + slots x) t
+abbrev Ends : ℕ → ℕ → Terminator → Laid → Type 0
+Ends place s t x = patches place s (ops x) ≡ patched place (s + slots x) t
 
 refuses : {P : Type 0} (place : ℕ) (r : Reason) → Fine (at place (refused r)) → P
 unfolding at ops
 refuses place r f = let e = f .is in let z : _≡_ {A = ℕ} 0 1 = cc in absurd (omega arith)
 
 returns : (place s : ℕ) (o : Operand) (x : Lowered) → One x → Fine (at place (x ▸ insn Exit 0 0 (pos 0) (pos 0))) → Ends place s (T.Return o) (at place (x ▸ insn Exit 0 0 (pos 0) (pos 0)))
-unfolding _▸_ insn at ops slots slotsOf targets patches jas jnes patched
-returns place s o _ (some i) f = record { room = omega arith; jumps = refl }
+unfolding _▸_ insn at ops slots slotsOf patches jas jnes patched
+returns place s o _ (some i) f = refl
 returns place s o _ (none r) f = refuses place r f
 
 branches : (place s : ℕ) (o : Operand) (to other : ℕ) (x : Lowered) → One x → Fine (at place (x ▸ becomes (jne to ∷ ja other ∷ []))) → Ends place s (T.Branch o to other) (at place (x ▸ becomes (jne to ∷ ja other ∷ [])))
-unfolding _▸_ at ops slots slotsOf targets patches jas jnes patched
+unfolding _▸_ at ops slots slotsOf patches jas jnes patched
 branches place s o to other _ (some i) f =
-    record {
-      room = omega arith;
-      jumps =
-          let a : suc (suc s) ≡ s + 3 - 1 = omega arith in
-          let b : suc s ≡ s + 3 - 2 = omega arith in
-          rw (← a, ← b);
-    }
+    let a : suc (suc s) ≡ s + 3 - 1 = omega arith in
+    let b : suc s ≡ s + 3 - 2 = omega arith in
+    rw (← a, ← b)
 branches place s o to other _ (none r) f = refuses place r f
 
 ends : (f : Frame) (place s : ℕ) (t : Terminator) → Fine (at place (terminator f t)) → Ends place s t (at place (terminator f t))
-unfolding terminator at ops slots slotsOf targets patches jas jnes patched
+unfolding terminator at ops slots slotsOf patches jas jnes patched
 ends f place s (T.Return o) h = returns place s o (load f 0 o) (one-load f 0 o) h
-ends f place s (T.Jump target) h =
-    record { room = omega arith; jumps = let a : s ≡ s + 1 - 1 = omega arith in rw (← a) }
+ends f place s (T.Jump target) h = let a : s ≡ s + 1 - 1 = omega arith in rw (← a)
 ends f place s (T.Branch o to other) h = branches place s o to other (load f 0 o) (one-load f 0 o) h
 
 module _ (c : Context) (j s : ℕ) (b : BasicBlock) (f : Fine (block c j b)) where
@@ -93,15 +85,10 @@ module _ (c : Context) (j s : ℕ) (b : BasicBlock) (f : Fine (block c j b)) whe
   unfolding block
   parts = both-fine _ _ f
 
-  -- a block has a slot for each jump
-  pub jumps-room : length (targets (b .terminator)) ≤ slots (block c j b)
-  unfolding block
-  jumps-room = omega (arith, ends (c .frame) (b .ending) s (b .terminator) (parts .second) .room, slots-then _ _ f)
-
   jumps-past : patches (b .ending) (s + slots (instructions c j (b .instructions))) (ops (at (b .ending) (terminator (c .frame) (b .terminator)))) ≡ patched (b .ending) (s + slots (block c j b)) (b .terminator)
   unfolding block
   jumps-past =
-      ends (c .frame) (b .ending) (s + slots (instructions c j (b .instructions))) (b .terminator) (parts .second) .jumps
+      ends (c .frame) (b .ending) (s + slots (instructions c j (b .instructions))) (b .terminator) (parts .second)
       ∙ ap (λ (n : ℕ). patched (b .ending) n (b .terminator)) (add-assoc s _ _ ∙ ap (λ (n : ℕ). s + n) (sym (slots-then _ _ f)))
 
 -- the jumps of a block, emitted or not, and of those after it

@@ -1,5 +1,5 @@
 -- From operations to instructions, bytes and relocations.
-use Prim.Native.Nat.{ℕ, suc, _+_, _*_}
+use Prim.Native.Nat.{ℕ, suc, _+_}
 use mathlib.Core.List.{List, [], _∷_, _++_}
 use lib.IntN.{ℤ, pos}
 use Rattle.wire.specs.Number.{bytesBefore}

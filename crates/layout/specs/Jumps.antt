@@ -1,12 +1,11 @@
 -- Where blocks begin, where jumps stand, and the refusals 18 and 19.
 use Prim.Native.Nat.{ℕ, suc, _+_}
-use mathlib.Core.Bool.{Bool, true, false}
 use mathlib.Core.List.{List, [], _∷_, _++_}
 use lib.Dec.{eqb}
 use lib.IntN.{ℤ, pos, _-ℤ_}
 use Rattle.wire.specs.Pick.{pick}
 use Rattle.unitfile.specs.Unit.{BasicBlock}
-use Rattle.lower.specs.Op.{Op, plain, map, ja, jne, slotsOf}
+use Rattle.lower.specs.Op.{Op, plain, map, ja, jne}
 use Rattle.lower.specs.Operand.{fits16}
 use Rattle.lower.specs.Terminator.{terminator}
 use Rattle.layout.specs.Layout.{Context, at, ops, slots, instructions, scratchThrough, block}

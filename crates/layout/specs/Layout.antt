@@ -1,9 +1,7 @@
 -- The operations of a unit: slot 0, then the emitted blocks in file order, instruction by instruction.
-use Prim.Native.Nat.{ℕ, suc, _+_}
-use mathlib.Core.Bool.{Bool, true, false}
+use Prim.Native.Nat.{ℕ}
+use mathlib.Core.Bool.{Bool}
 use mathlib.Core.List.{List, [], _∷_, _++_}
-use lib.IntN.{pos}
-use Rattle.insn.specs.declared.form.Form.the-variants.{MovReg}
 use Rattle.frame.specs.Cell.{Frame}
 use Rattle.unitfile.specs.Unit.{PlacedInstruction, BasicBlock}
 use Rattle.lower.specs.Op.{Op, Lowered, becomes, refused, slotsOf}

@@ -1,1 +1,5 @@
+pub mod ScreenPoints
 pub mod Known
+pub mod Done
+pub mod Passes
+pub mod OneAnswer

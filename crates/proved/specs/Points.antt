@@ -1,9 +1,7 @@
 -- The units of 01's known points, each as its records; their bytes are the record writer's.
 use Prim.Native.Nat.{ℕ, zero, suc}
 use mathlib.Core.List.{List, [], _∷_, _++_}
-use lib.IntN.{ℤ, pos, negsuc}
-use lib.ListN.{length}
-use Rattle.ir.specs.declared.Operand.{Operand}
+use lib.IntN.{ℤ, pos}
 use Rattle.ir.specs.declared.Operand.the-variants.{Var, Immediate}
 use Rattle.ir.specs.declared.Opcode.{Opcode}
 use Rattle.ir.specs.declared.Opcode.the-variants as C

@@ -9,11 +9,11 @@ use lib.IntN.{ℤ}
 use mir.Syntax.{w32}
 use Rattle.wire.specs.Le.{byteAt, unsignedAt, signedAt}
 use Rattle.record.specs.Instruction.{fieldsAt, countAt, joined, sized}
-use Rattle.record.specs.declared.operand.ReadOperands.{ReadOperands}
-use Rattle.record.specs.declared.operand.ReadOperands.the-variants as L
-use Rattle.record.specs.declared.opcode.ReadOpcode.the-variants as C
+use Rattle.operand.specs.declared.ReadOperands.{ReadOperands}
+use Rattle.operand.specs.declared.ReadOperands.the-variants as L
+use Rattle.opcode.specs.declared.ReadOpcode.the-variants as C
 use Rattle.record.specs.declared.instruction.ReadInstruction.the-variants as I
-use Rattle.record.proofs.Opcodes.{both-true}
+use Rattle.opcode.proofs.Opcodes.{both-true}
 
 -- a payload of the right size is as long as its operand count asks
 pub right-size : (b : List ℕ) (at len : ℕ) → sized b at len ≡ true → len ≡ 16 + 9 * byteAt b (at + 6)

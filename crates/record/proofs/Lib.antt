@@ -1,5 +1,3 @@
-pub mod Opcodes
-pub mod OperandList
 pub mod Instructions
 pub mod Frames
 pub mod RecordLaws

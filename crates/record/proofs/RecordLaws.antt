@@ -13,7 +13,7 @@ use Rattle.ir.specs.declared.Opcode.{Opcode}
 use Rattle.ir.specs.declared.Opcode.the-variants as C
 use Rattle.ir.specs.declared.Instruction.{Instruction}
 use Rattle.record.specs.Frame.{lengthAt, kindAt, wholeAt, nextAt}
-use Rattle.record.specs.Opcode.{onMap, when, opcodeOf}
+use Rattle.opcode.specs.Opcode.{onMap, when, opcodeOf}
 use Rattle.record.specs.Instruction.{joined, sized, instructionAt}
 use Rattle.record.specs.Payload.{headAt, headOk, ofInstruction, ofTerminator, payloadAt}
 use Rattle.record.specs.Record.{kindDue, onPayload, readRecord}
@@ -24,11 +24,11 @@ use Rattle.record.specs.declared.Due.{Due}
 use Rattle.record.specs.declared.Due.the-variants as Du
 use Rattle.record.specs.declared.Read.{Read}
 use Rattle.record.specs.declared.Read.the-variants as Re
-use Rattle.record.specs.declared.opcode.Fields.{Fields}
-use Rattle.record.specs.declared.opcode.ReadOpcode.{ReadOpcode}
-use Rattle.record.specs.declared.opcode.ReadOpcode.the-variants as O
-use Rattle.record.specs.declared.operand.ReadOperands.{ReadOperands}
-use Rattle.record.specs.declared.operand.ReadOperands.the-variants as L
+use Rattle.opcode.specs.declared.Fields.{Fields}
+use Rattle.opcode.specs.declared.ReadOpcode.{ReadOpcode}
+use Rattle.opcode.specs.declared.ReadOpcode.the-variants as O
+use Rattle.operand.specs.declared.ReadOperands.{ReadOperands}
+use Rattle.operand.specs.declared.ReadOperands.the-variants as L
 use Rattle.record.specs.declared.instruction.ReadInstruction.{ReadInstruction}
 use Rattle.record.specs.declared.instruction.ReadInstruction.the-variants as I
 use Rattle.record.specs.declared.terminator.ReadTerminator.{ReadTerminator}
@@ -36,7 +36,7 @@ use Rattle.record.specs.declared.terminator.ReadTerminator.the-variants 
 use Rattle.record.specs.declared.payload.Payload.{Payload}
 use Rattle.record.specs.declared.payload.Payload.the-variants as P
 use Rattle.record.proofs.Frames.{ends-inside}
-use Rattle.record.proofs.Opcodes.{both-true}
+use Rattle.opcode.proofs.Opcodes.{both-true}
 
 -- ---- a head's bounds
 

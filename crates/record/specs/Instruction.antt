@@ -7,13 +7,13 @@ use mir.Syntax.{w32}
 use Rattle.wire.specs.Pick.{pick, both}
 use Rattle.wire.specs.Le.{byteAt, unsignedAt, signedAt}
 use Rattle.ir.specs.declared.operands.Operands.the-variants.{Zero}
-use Rattle.record.specs.Operand.{operandsAt}
-use Rattle.record.specs.Opcode.{opcodeOf}
-use Rattle.record.specs.declared.operand.ReadOperands.{ReadOperands}
-use Rattle.record.specs.declared.operand.ReadOperands.the-variants as L
-use Rattle.record.specs.declared.opcode.Fields.{Fields}
-use Rattle.record.specs.declared.opcode.ReadOpcode.{ReadOpcode}
-use Rattle.record.specs.declared.opcode.ReadOpcode.the-variants as C
+use Rattle.operand.specs.Operand.{operandsAt}
+use Rattle.opcode.specs.Opcode.{opcodeOf}
+use Rattle.operand.specs.declared.ReadOperands.{ReadOperands}
+use Rattle.operand.specs.declared.ReadOperands.the-variants as L
+use Rattle.opcode.specs.declared.Fields.{Fields}
+use Rattle.opcode.specs.declared.ReadOpcode.{ReadOpcode}
+use Rattle.opcode.specs.declared.ReadOpcode.the-variants as C
 use Rattle.record.specs.declared.instruction.ReadInstruction.{ReadInstruction}
 use Rattle.record.specs.declared.instruction.ReadInstruction.the-variants as I
 

@@ -7,9 +7,9 @@ use Rattle.wire.specs.Pick.{pick, both}
 use Rattle.wire.specs.Le.{byteAt, unsignedAt}
 use Rattle.ir.specs.declared.Terminator.{Terminator}
 use Rattle.ir.specs.declared.Terminator.the-variants.{Return, Jump, Branch}
-use Rattle.record.specs.Operand.{operandAt}
-use Rattle.record.specs.declared.operand.ReadOperand.{ReadOperand}
-use Rattle.record.specs.declared.operand.ReadOperand.the-variants as O
+use Rattle.operand.specs.Operand.{operandAt}
+use Rattle.operand.specs.declared.ReadOperand.{ReadOperand}
+use Rattle.operand.specs.declared.ReadOperand.the-variants as O
 use Rattle.record.specs.declared.terminator.ReadTerminator.{ReadTerminator}
 use Rattle.record.specs.declared.terminator.ReadTerminator.the-variants as T
 

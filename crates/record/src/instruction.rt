@@ -1,10 +1,8 @@
 // An instruction's payload.
-use crate::opcode;
-use crate::opcode::Fields;
-use crate::opcode::ReadOpcode;
-use crate::operand;
-use crate::operand::ReadOperands;
 use ir::Instruction;
+use opcode::Fields;
+use opcode::ReadOpcode;
+use operand::ReadOperands;
 ghost use mathlib.Core.Path.{_≡_};
 ghost use Prim.Native.Nat.{_+_, _≤_};
 ghost use lib.ListN.{length};
@@ -45,7 +43,7 @@ pub(crate) fn instruction_at(s: &[u8], at: usize, len: usize, maps: u16) -> Read
             offset: wire::get_i32(s, at + 8),
             number: wire::get_u32(s, at + 12),
         };
-        let ReadOpcode::Is(o) = opcode::opcode(fields, maps) else {
+        let ReadOpcode::Is(o) = opcode::opcode_of(fields, maps) else {
             return ReadInstruction::Broken;
         };
         let ReadOperands::Is(list) = operand::operands_at(s, at + 16, s[at + 6]) else {

@@ -1,7 +1,5 @@
 // One record of the unit file, read.
 mod instruction;
-pub mod opcode;
-mod operand;
 pub mod payload;
 mod terminator;
 

@@ -3,7 +3,6 @@ use crate::Head;
 use crate::Record;
 use crate::instruction;
 use crate::instruction::ReadInstruction;
-use crate::opcode::both;
 use crate::terminator;
 use crate::terminator::ReadTerminator;
 ghost use mathlib.Core.Path.{_≡_};
@@ -20,7 +19,12 @@ pub enum Payload {
 pub fn head_ok(h: Head) -> bool
     ensures { λ r. ⌜ r ≡ headOk h ⌝ }
 {
-    both(h.edition == 1, both(h.maps <= 64, h.blocks <= 1024))
+    if h.edition == 1 {
+        if h.maps <= 64 {
+            return h.blocks <= 1024;
+        }
+    }
+    false
 }
 
 // The payload of len bytes at a byte, in a unit of so many maps.
@@ -28,46 +32,47 @@ pub(crate) fn payload_at(s: &[u8], kind: u16, at: usize, len: usize, maps: u16) 
     requires { ⌜ at + len ≤ length (now s) ⌝ }
     ensures { λ r. ⌜ r ≡ payloadAt kind (now (s .entry)) at len maps ⌝ }
 {
-    if kind == 1 {
-        if len != 8 {
-            return Payload::Broken;
+    match kind {
+        1 => {
+            if len == 8 {
+                let head = Head {
+                    edition: wire::get_u16(s, at),
+                    maps: wire::get_u16(s, at + 2),
+                    blocks: wire::get_u32(s, at + 4),
+                };
+                if head_ok(head) {
+                    return Payload::Is(Record::Head(head));
+                }
+            }
+            Payload::Broken
         }
-        let head = Head {
-            edition: wire::get_u16(s, at),
-            maps: wire::get_u16(s, at + 2),
-            blocks: wire::get_u32(s, at + 4),
-        };
-        if head_ok(head) {
-            return Payload::Is(Record::Head(head));
+        2 => {
+            if len <= 64 {
+                return Payload::Is(Record::Map {
+                    start: at,
+                    len: len,
+                });
+            }
+            Payload::Broken
         }
-        return Payload::Broken;
-    }
-    if kind == 2 {
-        if len <= 64 {
-            return Payload::Is(Record::Map {
-                start: at,
-                len: len,
-            });
+        3 => {
+            if len == 4 {
+                return Payload::Is(Record::Block(wire::get_u32(s, at)));
+            }
+            Payload::Broken
         }
-        return Payload::Broken;
-    }
-    if kind == 3 {
-        if len == 4 {
-            return Payload::Is(Record::Block(wire::get_u32(s, at)));
+        4 => {
+            let ReadInstruction::Is(i) = instruction::instruction_at(s, at, len, maps) else {
+                return Payload::Broken;
+            };
+            Payload::Is(Record::Instruction(i))
         }
-        return Payload::Broken;
+        5 => {
+            let ReadTerminator::Is(t) = terminator::terminator_at(s, at, len) else {
+                return Payload::Broken;
+            };
+            Payload::Is(Record::Terminator(t))
+        }
+        _ => Payload::Broken,
     }
-    if kind == 4 {
-        let ReadInstruction::Is(i) = instruction::instruction_at(s, at, len, maps) else {
-            return Payload::Broken;
-        };
-        return Payload::Is(Record::Instruction(i));
-    }
-    if kind == 5 {
-        let ReadTerminator::Is(t) = terminator::terminator_at(s, at, len) else {
-            return Payload::Broken;
-        };
-        return Payload::Is(Record::Terminator(t));
-    }
-    Payload::Broken
 }

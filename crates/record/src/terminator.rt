@@ -1,7 +1,6 @@
 // A terminator's payload.
-use crate::operand;
-use crate::operand::ReadOperand;
 use ir::Terminator;
+use operand::ReadOperand;
 ghost use mathlib.Core.Path.{_≡_};
 ghost use Prim.Native.Nat.{_+_, _≤_};
 ghost use lib.ListN.{length};

@@ -1,30 +1,20 @@
 -- How many bytes each part of a record has.
-use mathlib.Core.Path.{_≡_, refl, ap}
-use mathlib.Core.List.{List, [], _∷_}
+use mathlib.Core.Path.{_≡_, ap}
+use mathlib.Core.List.{List}
 use Prim.Native.Nat.{ℕ, suc, _+_, _*_, _≤_}
 use native.Mathlib.Omega.{arith}
 use lib.ListN.{length, take, drop, length-append, length-take, length-drop}
 use mir.Syntax.{w32}
 use Rattle.wire.proofs.Le.{unsigned-length, signed-length}
 use Rattle.ir.specs.declared.Operand.{Operand}
-use Rattle.ir.specs.declared.Operand.the-variants.{Var, Immediate}
 use Rattle.ir.specs.declared.Terminator.{Terminator}
 use Rattle.ir.specs.declared.Terminator.the-variants.{Return, Jump, Branch}
 use Rattle.record.specs.declared.Head.{Head}
 use Rattle.record.specs.declared.Record.{Record}
 use Rattle.record.specs.declared.Record.the-variants as R
-use Rattle.record.specs.declared.opcode.Fields.{Fields}
-use Rattle.recordwriter.specs.Bytes.{operandBytes, operandsBytes, instructionBytes, terminatorBytes, payloadBytes, recordBytes}
-
-pub operand-length : (o : Operand) → length (operandBytes o) ≡ 9
-unfolding operandBytes
-operand-length (Var v) = simp (length-append, unsigned-length)
-operand-length (Immediate z) = simp signed-length
-
-pub operands-length : (os : List Operand) → length (operandsBytes os) ≡ 9 * length os
-unfolding operandsBytes
-operands-length [] = refl
-operands-length (o ∷ os) = simp length-append (omega (arith, operand-length o, operands-length os))
+use Rattle.opcode.specs.declared.Fields.{Fields}
+use Rattle.operand.proofs.OperandBytes.{operand-length, operands-length}
+use Rattle.recordwriter.specs.Bytes.{instructionBytes, terminatorBytes, payloadBytes, recordBytes}
 
 pub instruction-length : (result : ℕ) (f : Fields) (os : List Operand) → length (instructionBytes result f os) ≡ 16 + 9 * length os
 unfolding instructionBytes

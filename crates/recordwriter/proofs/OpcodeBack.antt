@@ -11,12 +11,11 @@ use Rattle.wire.specs.Pick.{pick, both, isZero}
 use Rattle.ir.specs.declared.BinaryOp.the-variants.{Add, Sub, Mul, Div, Mod, Shl, Shr}
 use Rattle.ir.specs.declared.Opcode.{Opcode}
 use Rattle.ir.specs.declared.Opcode.the-variants as C
-use Rattle.record.specs.Opcode.{operations, onMap, when, opcodeOf}
-use Rattle.record.specs.declared.opcode.Fields.{Fields}
-use Rattle.record.specs.declared.opcode.ReadOpcode.{ReadOpcode}
-use Rattle.record.specs.declared.opcode.ReadOpcode.the-variants.{Is, Broken}
-use Rattle.recordwriter.specs.Bytes.{smallOf, fieldsOf}
-use Rattle.recordwriter.specs.Written.{mapOk}
+use Rattle.opcode.specs.Opcode.{operations, smallOf, onMap, mapOk, when, opcodeOf}
+use Rattle.opcode.specs.declared.Fields.{Fields}
+use Rattle.opcode.specs.declared.ReadOpcode.{ReadOpcode}
+use Rattle.opcode.specs.declared.ReadOpcode.the-variants.{Is, Broken}
+use Rattle.recordwriter.specs.Bytes.{fieldsOf}
 use Rattle.recordwriter.proofs.Valid.{both-left, both-right}
 
 -- ---- from its fields an opcode is read

@@ -22,26 +22,28 @@ use Rattle.ir.specs.declared.Terminator.the-variants.{Return, Jump, Branch}
 use Rattle.ir.specs.declared.operands.Operands.{Operands}
 use Rattle.ir.specs.declared.operands.Operands.the-variants.{Zero}
 use Rattle.ir.proofs.OperandLaws.{at-most-eight, pushed-last, listOf-injective}
-use Rattle.record.specs.Operand.{operandAt, onOperand, operandsAt}
+use Rattle.operand.specs.Operand.{operandAt, onOperand, operandsAt, operandBytes, operandsBytes}
+use Rattle.operand.proofs.OperandBytes.{operand-length}
 use Rattle.record.specs.Instruction.{fieldsAt, countAt, sized, joined, instructionAt}
 use Rattle.record.specs.Terminator.{returning, branching, terminatorAt}
 use Rattle.record.specs.Payload.{headAt, ofInstruction, ofTerminator, payloadAt}
 use Rattle.record.specs.Frame.{wholeAt, nextAt}
 use Rattle.record.specs.Record.{kindDue, onPayload, readRecord}
-use Rattle.record.specs.declared.opcode.Fields.{Fields}
+use Rattle.opcode.specs.declared.Fields.{Fields}
 use Rattle.record.specs.declared.Head.{Head}
 use Rattle.record.specs.declared.Record.{Record}
 use Rattle.record.specs.declared.Record.the-variants as R
 use Rattle.record.specs.declared.Read.the-variants as Re
-use Rattle.record.specs.declared.operand.ReadOperand.the-variants as O
-use Rattle.record.specs.declared.operand.ReadOperands.the-variants as L
+use Rattle.operand.specs.declared.ReadOperand.the-variants as O
+use Rattle.operand.specs.declared.ReadOperands.the-variants as L
 use Rattle.record.specs.declared.instruction.ReadInstruction.the-variants as I
 use Rattle.record.specs.declared.terminator.ReadTerminator.the-variants as T
 use Rattle.record.specs.declared.payload.Payload.the-variants as P
-use Rattle.recordwriter.specs.Bytes.{operandBytes, operandsBytes, fieldsOf, instructionBytes, terminatorBytes, payloadBytes, kindOf, recordBytes}
-use Rattle.recordwriter.specs.Written.{mapOk, valid}
+use Rattle.recordwriter.specs.Bytes.{fieldsOf, instructionBytes, terminatorBytes, payloadBytes, kindOf, recordBytes}
+use Rattle.recordwriter.specs.Written.{valid}
+use Rattle.opcode.specs.Opcode.{mapOk}
 use Rattle.recordwriter.specs.Typed.{TypedOperand, TypedOperands, TypedOpcode, TypedTerminator, Typed, dueOf, placed}
-use Rattle.recordwriter.proofs.Length.{operand-length, instruction-length, return-length, jump-length, branch-length, head-length, part-length, record-length}
+use Rattle.recordwriter.proofs.Length.{instruction-length, return-length, jump-length, branch-length, head-length, part-length, record-length}
 use Rattle.recordwriter.proofs.Valid.{name-told, payload-small}
 use Rattle.recordwriter.proofs.Holds.{Holds, stands, first, second, byte-there, unsigned-there, signed-there}
 use Rattle.recordwriter.proofs.OpcodeBack.{opcode-read}
@@ -102,16 +104,18 @@ module _ (b : List ℕ) where
 
   pub operand-read : {i k : ℕ} (o : Operand) → TypedOperand o → Holds b i k (operandBytes o) → operandAt b i ≡ O.Is o
   unfolding operandBytes operandAt
-  operand-read (Var v) f h =
+  operand-read {i} {k} (Var v) f h =
       let tag = byte-there 0 h in
       let tail = second (0 ∷ []) (unsignedBytes w32 v ++ unsignedBytes w32 0) 1 refl h in
       let var = unsigned-there w32 v f (first (unsignedBytes w32 v) (unsignedBytes w32 0) 4 (unsigned-length w32 v) tail) in
       let rest = unsigned-there w32 0 (record { fits = omega arith }) (second (0 ∷ unsignedBytes w32 v) (unsignedBytes w32 0) 5 (ap suc (unsigned-length w32 v)) h) in
-      rw (tag, rest, var)
-  operand-read (Immediate z) f h =
+      let room = le-leb (i + 9) (length b) (omega (arith, h .room, h .size, operand-length (Var v))) in
+      rw (room, tag, rest, var)
+  operand-read {i} {k} (Immediate z) f h =
       let tag = byte-there 1 h in
       let value = signed-there w64 z f (second (1 ∷ []) (signedBytes w64 z) 1 refl h) in
-      rw (tag, value)
+      let room = le-leb (i + 9) (length b) (omega (arith, h .room, h .size, operand-length (Immediate z))) in
+      rw (room, tag, value)
 
   pub operands-read : {i k : ℕ} (l m : Operands) (os : List Operand) → listOf m ≡ listOf l ++ os → TypedOperands os → Holds b i k (operandsBytes os) → operandsAt l b i (length os) ≡ L.Is m
   unfolding operandsBytes operandsAt onOperand

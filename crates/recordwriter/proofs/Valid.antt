@@ -18,7 +18,8 @@ use Rattle.ir.specs.declared.Opcode.the-variants as C
 use Rattle.record.specs.declared.Record.{Record}
 use Rattle.record.specs.declared.Record.the-variants as R
 use Rattle.recordwriter.specs.Bytes.{fieldsOf, payloadBytes}
-use Rattle.recordwriter.specs.Written.{mapOk, valid}
+use Rattle.recordwriter.specs.Written.{valid}
+use Rattle.opcode.specs.Opcode.{mapOk}
 use Rattle.recordwriter.specs.Size.{sizeOf}
 use Rattle.recordwriter.specs.declared.size.Size.{Size}
 use Rattle.recordwriter.specs.declared.size.Size.the-variants.{Bytes, Broken}

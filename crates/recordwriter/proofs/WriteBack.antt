@@ -18,8 +18,8 @@ use Rattle.ir.specs.declared.Terminator.{Terminator}
 use Rattle.ir.specs.declared.operands.Operands.{Operands}
 use Rattle.ir.specs.declared.operands.Operands.the-variants.{Zero}
 use Rattle.ir.proofs.OperandLaws.{pushed-last}
-use Rattle.record.specs.Opcode.{opcodeOf}
-use Rattle.record.specs.Operand.{operandAt, onOperand, operandsAt}
+use Rattle.opcode.specs.Opcode.{mapOk, opcodeOf}
+use Rattle.operand.specs.Operand.{operandAt, onOperand, operandsAt, operandBytes, operandsBytes}
 use Rattle.record.specs.Instruction.{fieldsAt, countAt, sized, joined, instructionAt}
 use Rattle.record.specs.Terminator.{returning, branching, terminatorAt}
 use Rattle.record.specs.Payload.{headAt, headOk, ofInstruction, ofTerminator, payloadAt}
@@ -28,13 +28,13 @@ use Rattle.record.specs.Record.{readRecord}
 use Rattle.record.specs.declared.Due.{Due}
 use Rattle.record.specs.declared.Record.{Record}
 use Rattle.record.specs.declared.Read.the-variants as Re
-use Rattle.record.specs.declared.opcode.Fields.{Fields}
-use Rattle.record.specs.declared.opcode.ReadOpcode.{ReadOpcode}
-use Rattle.record.specs.declared.opcode.ReadOpcode.the-variants as C
-use Rattle.record.specs.declared.operand.ReadOperand.{ReadOperand}
-use Rattle.record.specs.declared.operand.ReadOperand.the-variants as O
-use Rattle.record.specs.declared.operand.ReadOperands.{ReadOperands}
-use Rattle.record.specs.declared.operand.ReadOperands.the-variants as L
+use Rattle.opcode.specs.declared.Fields.{Fields}
+use Rattle.opcode.specs.declared.ReadOpcode.{ReadOpcode}
+use Rattle.opcode.specs.declared.ReadOpcode.the-variants as C
+use Rattle.operand.specs.declared.ReadOperand.{ReadOperand}
+use Rattle.operand.specs.declared.ReadOperand.the-variants as O
+use Rattle.operand.specs.declared.ReadOperands.{ReadOperands}
+use Rattle.operand.specs.declared.ReadOperands.the-variants as L
 use Rattle.record.specs.declared.instruction.ReadInstruction.{ReadInstruction}
 use Rattle.record.specs.declared.instruction.ReadInstruction.the-variants as I
 use Rattle.record.specs.declared.terminator.ReadTerminator.{ReadTerminator}
@@ -42,8 +42,8 @@ use Rattle.record.specs.declared.terminator.ReadTerminator.the-variants as T
 use Rattle.record.specs.declared.payload.Payload.{Payload}
 use Rattle.record.specs.declared.payload.Payload.the-variants as P
 use Rattle.record.proofs.RecordLaws.{record-taken}
-use Rattle.recordwriter.specs.Bytes.{operandBytes, operandsBytes, fieldsOf, instructionBytes, terminatorBytes, payloadBytes, kindOf, recordBytes}
-use Rattle.recordwriter.specs.Written.{mapOk, valid}
+use Rattle.recordwriter.specs.Bytes.{fieldsOf, instructionBytes, terminatorBytes, payloadBytes, kindOf, recordBytes}
+use Rattle.recordwriter.specs.Written.{valid}
 use Rattle.recordwriter.proofs.Length.{part-length}
 use Rattle.recordwriter.proofs.Pieces.{instruction-pieces}
 use Rattle.recordwriter.proofs.Valid.{both-left, both-right}
@@ -63,7 +63,8 @@ module _ (b : List ℕ) (bytes : Bytes b) where
   one-operand : (i : ℕ) → i + 9 ≤ length b → OneOperand i (operandAt b i)
   unfolding operandAt operandBytes
   one-operand i room =
-      either (OneOperand i) (eqb (getD b i 0) 0) _ _
+      either (OneOperand i) (leb (i + 9) (length b)) _ _
+      (λ _. either (OneOperand i) (eqb (getD b i 0) 0) _ _
       (λ tag. either (OneOperand i) (eqb (unsignedAt w32 b (i + 5)) 0) _ _
       (λ rest. record {
         operand =
@@ -74,7 +75,8 @@ module _ (b : List ℕ) (bytes : Bytes b) where
       (λ rest. record { operand = tt }))
       (λ _. either (OneOperand i) (eqb (getD b i 0) 1) _ _
       (λ tag. record { operand = byte-holds b i (omega arith) (eqb-true _ _ tag) ▹ signed-holds w64 b (i + 1) bytes (omega arith) refl })
-      (λ _. record { operand = tt }))
+      (λ _. record { operand = tt })))
+      (λ _. record { operand = tt })
 
   operand-written : (i : ℕ) (o : Operand) → i + 9 ≤ length b → operandAt b i ≡ O.Is o → Holds b i 9 (operandBytes o)
   operand-written i o room e = (subst (OneOperand i) e (one-operand i room)) .operand

@@ -3,13 +3,10 @@ use Prim.Native.Nat.{ℕ}
 use mathlib.Core.List.{List, [], _∷_, _++_}
 use lib.IntN.{pos}
 use lib.ListN.{length, take, drop}
-use mir.Syntax.{w16, w32, w64}
+use mir.Syntax.{w16, w32}
 use Rattle.wire.specs.Le.{unsignedBytes, signedBytes}
 use Rattle.ir.specs.Operands.{listOf}
-use Rattle.ir.specs.declared.BinaryOp.{BinaryOp}
-use Rattle.ir.specs.declared.BinaryOp.the-variants.{Add, Sub, Mul, Div, Mod, Shl, Shr}
 use Rattle.ir.specs.declared.Operand.{Operand}
-use Rattle.ir.specs.declared.Operand.the-variants.{Var, Immediate}
 use Rattle.ir.specs.declared.Opcode.{Opcode}
 use Rattle.ir.specs.declared.Opcode.the-variants as C
 use Rattle.ir.specs.declared.Instruction.{Instruction}
@@ -17,26 +14,9 @@ use Rattle.ir.specs.declared.Terminator.{Terminator}
 use Rattle.ir.specs.declared.Terminator.the-variants.{Return, Jump, Branch}
 use Rattle.record.specs.declared.Record.{Record}
 use Rattle.record.specs.declared.Record.the-variants as R
-use Rattle.record.specs.declared.opcode.Fields.{Fields}
-
--- tag 0, u32 variable, four zero bytes; or tag 1, i64 immediate
-unfoldable pub operandBytes : Operand → List ℕ
-operandBytes (Var v) = 0 ∷ unsignedBytes w32 v ++ unsignedBytes w32 0
-operandBytes (Immediate z) = 1 ∷ signedBytes w64 z
-
-unfoldable pub operandsBytes : List Operand → List ℕ
-operandsBytes [] = []
-operandsBytes (o ∷ os) = operandBytes o ++ operandsBytes os
-
--- Binary's small
-unfoldable pub smallOf : BinaryOp → ℕ
-smallOf Add = 0
-smallOf Sub = 1
-smallOf Mul = 2
-smallOf Div = 3
-smallOf Mod = 4
-smallOf Shl = 5
-smallOf Shr = 6
+use Rattle.opcode.specs.declared.Fields.{Fields}
+use Rattle.opcode.specs.Opcode.{smallOf}
+use Rattle.operand.specs.Operand.{operandBytes, operandsBytes}
 
 -- an opcode's number, small, offset and number; what it does not use is zero
 unfoldable pub fieldsOf : Opcode → Fields

@@ -2,14 +2,13 @@
 use Prim.Native.Nat.{ℕ, _+_}
 use mathlib.Core.Bool.{Bool, true}
 use mathlib.Core.List.{List}
-use lib.Dec.{leb, ltb}
+use lib.Dec.{leb}
 use lib.IntN.{pos}
 use lib.ListN.{length}
 use Rattle.wire.specs.Pick.{pick, both}
 use Rattle.wire.specs.Le.{store}
 use Rattle.wire.specs.declared.refusal.Refusal.{Refusal}
-use Rattle.ir.specs.declared.Opcode.{Opcode}
-use Rattle.ir.specs.declared.Opcode.the-variants as C
+use Rattle.opcode.specs.Opcode.{mapOk}
 use Rattle.record.specs.Payload.{headOk}
 use Rattle.record.specs.declared.Record.{Record}
 use Rattle.record.specs.declared.Record.the-variants as R
@@ -18,21 +17,6 @@ use Rattle.recordwriter.specs.declared.Written.{Written}
 use Rattle.recordwriter.specs.declared.Written.the-variants.{Bytes, Refused}
 use Rattle.recordwriter.specs.declared.Fault.{Fault}
 use Rattle.recordwriter.specs.declared.Fault.the-variants.{Broken, NoRoom}
-
--- an opcode's map number is below the map count
-unfoldable pub mapOk : ℕ → Opcode → Bool
-mapOk maps (C.HelperCall id) = true
-mapOk maps C.LoadKey = true
-mapOk maps (C.Store size) = true
-mapOk maps (C.LoadCtx offset size) = true
-mapOk maps (C.LoadPacket offset size) = true
-mapOk maps (C.CopyCtxToMem offset size) = true
-mapOk maps C.NullCheck = true
-mapOk maps (C.Binary op) = true
-mapOk maps (C.CallMap m) = ltb m maps
-mapOk maps (C.UpdateMap m) = ltb m maps
-mapOk maps (C.RingBufReserve m size) = ltb m maps
-mapOk maps (C.RingBufSubmit m) = ltb m maps
 
 -- the rules of a record's value: a valid head, a name of at most 64 bytes, a map that there is
 unfoldable pub valid : ℕ → List ℕ → Record → Bool

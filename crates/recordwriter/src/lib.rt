@@ -1,6 +1,5 @@
 // One record of the unit file, written.
-mod opcode;
-mod operand;
+mod fields;
 mod put;
 mod size;
 

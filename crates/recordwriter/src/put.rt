@@ -1,10 +1,10 @@
 // A record's bytes, written where the caller has found room for them.
-use crate::opcode::fields;
-use crate::operand::put_operand;
-use crate::operand::put_operands;
+use crate::fields::fields;
 use ir::Instruction;
 use ir::Terminator;
 use ir::operands;
+use operand::put_operand;
+use operand::put_operands;
 use record::Head;
 use record::Record;
 ghost use mathlib.Core.Path.{_≡_};
@@ -15,7 +15,8 @@ ghost use lib.ListN.{length, take, drop};
 ghost use Rattle.wire.specs.Le.{store};
 ghost use Rattle.ir.specs.Operands.{listOf};
 ghost use Rattle.recordwriter.specs.Bytes.{fieldsOf, instructionBytes, terminatorBytes, kindOf, payloadBytes, recordBytes};
-ghost use Rattle.recordwriter.specs.Written.{mapOk, valid};
+ghost use Rattle.opcode.specs.Opcode.{mapOk};
+ghost use Rattle.recordwriter.specs.Written.{valid};
 
 fn put_instruction(b: &mut [u8], at: usize, i: Instruction)
     requires { ⌜ mapOk 65536 (i .opcode) ≡ true ⌝ }

@@ -1,7 +1,7 @@
 // Whether a record's value keeps the rules, and how many bytes its payload has.
-use ir::Opcode;
 use ir::Terminator;
 use ir::operands;
+use opcode::map_ok;
 use record::Record;
 use record::payload::head_ok;
 ghost use mathlib.Core.Path.{_≡_};
@@ -10,32 +10,12 @@ ghost use lib.Dec.{leb};
 ghost use lib.ListN.{length};
 ghost use Rattle.wire.specs.Pick.{both};
 ghost use Rattle.recordwriter.specs.Bytes.{terminatorBytes};
-ghost use Rattle.recordwriter.specs.Written.{mapOk};
 ghost use Rattle.recordwriter.specs.Size.{sizeOf};
 
 // The payload's bytes, or a value that breaks the rules.
 pub enum Size {
     Bytes(u16),
     Broken,
-}
-
-fn map_ok(o: Opcode, maps: u16) -> bool
-    ensures { λ r. ⌜ r ≡ mapOk maps o ⌝ }
-{
-    match o {
-        Opcode::HelperCall { id: _ } => true,
-        Opcode::LoadKey => true,
-        Opcode::Store { size: _ } => true,
-        Opcode::LoadCtx { offset: _, size: _ } => true,
-        Opcode::LoadPacket { offset: _, size: _ } => true,
-        Opcode::CopyCtxToMem { offset: _, size: _ } => true,
-        Opcode::NullCheck => true,
-        Opcode::Binary { op: _ } => true,
-        Opcode::CallMap { map } => map < (maps as u32),
-        Opcode::UpdateMap { map } => map < (maps as u32),
-        Opcode::RingBufReserve { map, size: _ } => map < (maps as u32),
-        Opcode::RingBufSubmit { map } => map < (maps as u32),
-    }
 }
 
 // Whether len bytes from start on lie in total bytes, and are no more than a name may have.

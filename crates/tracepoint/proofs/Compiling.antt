@@ -30,10 +30,10 @@ use Rattle.layout.proofs.Keep.{keep-by}
 use Rattle.layout.proofs.Located.{edges-count}
 use Rattle.layout.proofs.Written.{relocations-count}
 use Rattle.tracepoint.specs.Compile.{Lowering, faulty, onLanding, onLaid, onCollected, lowering, loweringOf, roomed, compileAnswer, codeOf, relocsOf, front, compileCode, compileRelocs}
-use Rattle.tracepoint.specs.Inner.{marked, contextOf}
+use Rattle.tracepoint.specs.Inner.{contextOf}
 use Rattle.tracepoint.specs.Notes.{Noted}
-use Rattle.tracepoint.specs.Tables.{sizeOf, Measured, Tables, landedOf, unitLanding, Room}
-use Rattle.tracepoint.specs.Landed.{landedFrom, Arrays, OwnSlots}
+use Rattle.tracepoint.specs.Tables.{sizeOf, Measured, Tables, unitLanding, Room}
+use Rattle.jumps.specs.Landed.{marked, landedOf, landedFrom}
 use Rattle.tracepoint.specs.Stages.{Surveyed, Linked, Ready, loweringBy, loweredBy, Answers}
 use Rattle.tracepoint.specs.declared.Fault.{Fault}
 use Rattle.tracepoint.specs.declared.Fault.the-variants as F
@@ -41,11 +41,11 @@ use Rattle.tracepoint.specs.declared.Compiled.{Compiled}
 use Rattle.tracepoint.specs.declared.Compiled.the-variants as A
 use Rattle.tracepoint.specs.declared.measure.Size.{Size}
 use Rattle.tracepoint.specs.declared.measure.Size.the-variants as S
-use Rattle.tracepoint.specs.declared.jumps.Landed.{Landed}
-use Rattle.tracepoint.specs.declared.jumps.Landed.the-variants as L
+use Rattle.jumps.specs.declared.Landed.{Landed}
+use Rattle.jumps.specs.declared.Landed.the-variants as L
 use Rattle.tracepoint.proofs.Conditions.{context-is}
 use Rattle.tracepoint.proofs.Tables.{stored-at}
-use Rattle.tracepoint.proofs.Landing.{own-slots, landed-unit}
+use Rattle.tracepoint.proofs.Landing.{landed-unit}
 
 -- ---- answers
 
@@ -173,7 +173,7 @@ module _ (c : Context) (bs : List BasicBlock) (em ls ls′ : List ℕ) {r : Size
     pub edges-size : length ls′ ≡ 1025
     edges-size = ap length put ∙ length-sets ls 0 (layout.edges c e 0 0 1 bs) ∙ room
 
-    pub tables : Tables c e bs ls′ numbers
+    tables : Tables c e bs ls′ numbers
     tables =
         let f = l .few in
         record {
@@ -187,40 +187,32 @@ module _ (c : Context) (bs : List BasicBlock) (em ls ls′ : List ℕ) {r : Size
           number = l .number;
         }
 
-    pub arrays : Arrays em ls′ es counts named numbers
-    arrays = record { flags = l .emitted-size; slots = edges-size; places = l .endings-size; targets = l .counts-size; ids = l .named-size; blocks = l .numbers-size }
-
-    -- the jumps of all blocks, by their numbers
-    module _ {count : ℕ} (z : count ≡ length bs) where
-      pub own : OwnSlots em ls′ counts count
-      own = subst (OwnSlots em ls′ counts) (sym z) (own-slots em tables (l .told))
-
-      pub landed-is : landedFrom em ls′ es counts named numbers 0 count ≡ landedOf (unitLanding c e bs)
-      landed-is = ap (λ (x : ℕ). landedFrom em ls′ es counts named numbers 0 x) z ∙ landed-unit em tables (l .told)
-
     lowers : loweringBy c e bs ≡ onLanding (unitLanding c e bs) (starts c (keepBy e 0 bs)) (ops (unitOps c (keepBy e 0 bs)))
     unfolding onLaid
     lowers = ap (onLaid c (keepBy e 0 bs)) (sized .fine)
 
-    -- where the jumps land
-    module _ {a : Landed} (h : a ≡ landedOf (unitLanding c e bs)) where
+    -- where the jumps of all blocks land, by their numbers
+    module _ {count : ℕ} (z : count ≡ length bs) {a : Landed} (h : a ≡ landedFrom em ls′ es counts named numbers 0 count) where
+      landed-is : a ≡ landedOf (unitLanding c e bs)
+      landed-is = h ∙ ap (λ (x : ℕ). landedFrom em ls′ es counts named numbers 0 x) z ∙ landed-unit em tables (l .told)
+
       landing-is : {x : Landing} → unitLanding c e bs ≡ x → loweringBy c e bs ≡ onLanding x (starts c (keepBy e 0 bs)) (ops (unitOps c (keepBy e 0 bs)))
       landing-is q = lowers ∙ ap (λ (y : Landing). onLanding y (starts c (keepBy e 0 bs)) (ops (unitOps c (keepBy e 0 bs)))) q
 
       pub when-no-target : (place id : ℕ) → a ≡ L.NoTarget place id → (code relocs : List ℕ) → Answers (loweringBy c e bs) code relocs (A.Refused (F.NoTarget place id)) code relocs
       unfolding onLanding
-      when-no-target place id g code relocs = at-fault code relocs (landing-is (no-target _ place id (sym g ∙ h)))
+      when-no-target place id g code relocs = at-fault code relocs (landing-is (no-target _ place id (sym g ∙ landed-is)))
 
       pub when-too-far : (place id : ℕ) → a ≡ L.TooFar place id → (code relocs : List ℕ) → Answers (loweringBy c e bs) code relocs (A.Refused (F.TooFar place id)) code relocs
       unfolding onLanding
-      when-too-far place id g code relocs = at-fault code relocs (landing-is (too-far _ place id (sym g ∙ h)))
+      when-too-far place id g code relocs = at-fault code relocs (landing-is (too-far _ place id (sym g ∙ landed-is)))
 
       module _ (g : a ≡ L.Lands) where
         pub ready : Ready c e bs ls′ numbers n k
         ready =
             record {
               tables = tables;
-              lands = all-land _ (sym g ∙ h);
+              lands = all-land _ (sym g ∙ landed-is);
               slots = sized .slots;
               maps = sized .maps;
               few-slots = m .few n k q .0;
@@ -231,7 +223,7 @@ module _ (c : Context) (bs : List BasicBlock) (em ls ls′ : List ℕ) {r : Size
 
         pub when-lands : {code relocs code′ relocs′ : List ℕ} {x : Compiled} → Answers (loweredBy c e bs) code relocs x code′ relocs′ → Answers (loweringBy c e bs) code relocs x code′ relocs′
         unfolding onLanding
-        when-lands = same-answers (landing-is (all-land _ (sym g ∙ h)))
+        when-lands = same-answers (landing-is (all-land _ (sym g ∙ landed-is)))
 
 -- ---- the room, and the writing
 

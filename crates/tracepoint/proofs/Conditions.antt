@@ -20,7 +20,8 @@ use Rattle.survey.specs.Collected.{collected, all}
 use Rattle.survey.specs.Conditions.{isVar, branchesOn, isCondition}
 use Rattle.survey.proofs.Among.{condition-among}
 use Rattle.layout.specs.Layout.{Context}
-use Rattle.tracepoint.specs.Inner.{marked, conditionFrom}
+use Rattle.jumps.specs.Landed.{marked}
+use Rattle.tracepoint.specs.Inner.{conditionFrom}
 use Rattle.tracepoint.specs.Notes.{Noted}
 use Rattle.tracepoint.proofs.Marks.{both-false}
 

@@ -3,15 +3,14 @@ use mathlib.Core.Path.{_≡_, refl, sym, ap, _∙_, subst}
 use mathlib.Core.Bool.{Bool, true, false}
 use mathlib.Core.List.{List, [], _∷_, _++_, map}
 use Prim.Native.Nat.{ℕ, suc, _+_}
-use native.Mathlib.Nat.{add-zero, add-assoc}
+use native.Mathlib.Nat.{add-assoc}
 use Rattle.wire.specs.Pick.{pick}
 use Rattle.record.specs.declared.Record.the-variants as R
 use Rattle.unitfile.specs.Records.{Placed}
 use Rattle.unitfile.specs.Unit.{PlacedInstruction, BasicBlock}
 use Rattle.unitfile.proofs.Blocks.{instructionRecord, terminatorRecord, onto, flat}
-use Rattle.lower.specs.Op.{slotsOf}
 use Rattle.survey.specs.Inner.{atEnd}
-use Rattle.layout.specs.Layout.{Context, Laid, laid, _then_, instructions, scratchThrough, block, blocks, ops, slots}
+use Rattle.layout.specs.Layout.{Context, Laid, laid, _then_, instructions, scratchThrough, block, blocks, slots}
 use Rattle.layout.specs.Jumps.{Jump, jumpsFrom}
 use Rattle.layout.specs.Inner.{keepBy, scratchBy, blockBy, edges}
 use Rattle.tracepoint.specs.Inner.{after, becoming, recordOps, jumping, recordJumps}

@@ -3,11 +3,9 @@ use mathlib.Core.Path.{_≡_, refl, sym, ap, _∙_}
 use mathlib.Core.Bool.{Bool, true, false}
 use mathlib.Core.List.{List, [], _∷_, _++_}
 use mathlib.Core.Logic.{⊎-elim}
-use Prim.Native.Nat.{ℕ, zero, suc, _+_, _*_, _-_, _<_, _≤_}
+use Prim.Native.Nat.{ℕ, suc, _+_, _*_, _-_, _<_, _≤_}
 use native.Mathlib.Nat.{zero-add}
-use native.Mathlib.Numerals.{add-one}
 use native.Mathlib.Omega.{arith}
-use borrow.Author.Tests.{eq-eqb, ne-eqb}
 use lib.ListN.{length, getD}
 use Rattle.wire.specs.Pick.{pick}
 use Rattle.ir.specs.declared.Terminator.{Terminator}
@@ -19,7 +17,7 @@ use Rattle.flow.proofs.Numbers.{number-law}
 use Rattle.survey.specs.Surveyed as survey
 use Rattle.survey.specs.Surveyed.{ids}
 use Rattle.survey.proofs.Flat.{ids-count}
-use Rattle.layout.specs.Emitted.{targets, nodes}
+use Rattle.layout.specs.Emitted.{nodes}
 use Rattle.layout.specs.Layout.{Context, blocks, slots, unitOps}
 use Rattle.layout.specs.Jumps.{Start, starts, Jump, to, nowhere, lastStart, jumps, jumpsFrom, Landing, lands, noTarget, tooFar, onTarget, orRest, landing}
 use Rattle.layout.specs.Inner as layout
@@ -27,33 +25,12 @@ use Rattle.layout.specs.Inner.{keepBy, scratchBy, blockBy}
 use Rattle.layout.proofs.Laid.{Fine, both-fine}
 use Rattle.layout.proofs.Keep.{Agree}
 use Rattle.layout.proofs.Located.{located}
-use Rattle.layout.proofs.Patches.{patched, jumps-room, jumps-first, or-lands, landing-append}
-use Rattle.tracepoint.specs.Inner.{marked}
+use Rattle.layout.proofs.Patches.{patched, jumps-first, or-lands, landing-append}
 use Rattle.tracepoint.specs.Notes.{countOf, firstTarget, secondTarget, countsOf, pairsOf}
-use Rattle.tracepoint.specs.Tables.{Tables, Endings, landedOf, unitLanding}
-use Rattle.tracepoint.specs.Landed.{orNext, landedBy, landedAt, landedFrom, OwnSlots}
-use Rattle.tracepoint.specs.declared.jumps.Landed.{Landed}
-use Rattle.tracepoint.specs.declared.jumps.Landed.the-variants as L
+use Rattle.tracepoint.specs.Tables.{Tables, Endings, unitLanding}
+use Rattle.jumps.specs.Landed.{marked, landedOf, orNext, landedBy, landedAt, landedFrom}
+use Rattle.jumps.specs.declared.Landed.{Landed}
 use Rattle.tracepoint.proofs.Flat.{fine-both}
-
--- ---- one block after the other
-
-module _ (emitted edges endings counts named numbers : List ℕ) (n k : ℕ) where
-  pub on-emitted : k < n → getD emitted k 0 ≡ 1 → landedFrom emitted edges endings counts named numbers k (n - k) ≡ orNext (landedAt emitted edges endings counts named numbers k) (landedFrom emitted edges endings counts named numbers (k + 1) (n - (k + 1)))
-  unfolding landedFrom marked
-  on-emitted l e =
-      let z : n - k ≡ suc (n - (k + 1)) = omega arith in
-      rw (z, eq-eqb (getD emitted k 0) 1 e, add-one)
-
-  pub on-silent : k < n → (getD emitted k 0 ≡ 1 → ⊥) → landedFrom emitted edges endings counts named numbers k (n - k) ≡ landedFrom emitted edges endings counts named numbers (k + 1) (n - (k + 1))
-  unfolding landedFrom marked
-  on-silent l e =
-      let z : n - k ≡ suc (n - (k + 1)) = omega arith in
-      rw (z, ne-eqb (getD emitted k 0) 1 e, add-one)
-
-  pub on-end : n ≤ k → landedFrom emitted edges endings counts named numbers k (n - k) ≡ L.Lands
-  unfolding landedFrom
-  on-end l = let z : n - k ≡ 0 = omega arith in rw z
 
 -- ---- a block's jumps, by its terminator
 
@@ -62,12 +39,6 @@ unfolding landedOf orRest orNext
 landed-or lands y = refl
 landed-or (noTarget place id) y = refl
 landed-or (tooFar place id) y = refl
-
-count-targets : (t : Terminator) → countOf t ≡ length (targets t)
-unfolding countOf targets
-count-targets (T.Return o) = refl
-count-targets (T.Jump target) = refl
-count-targets (T.Branch o one other) = refl
 
 module _ (xs : List Start) (emitted edges endings counts named numbers : List ℕ) (k : ℕ) where
   -- the t-th of the ids that are named, and the slot of the block that its number means
@@ -148,22 +119,7 @@ by-mark : (xs : List Start) (t : Bool) (a r : Landed) (ps js : List Jump) → a 
 by-mark xs true a r ps js p q = rw (p, q, landing-append) (sym (landed-or (landing xs ps) (landing xs js)))
 by-mark xs false a r ps js p q = q
 
-room-by : (c : Context) (t : Bool) (j s : ℕ) (b : BasicBlock) → t ≡ true → Fine (blockBy c t j b) → countOf (b .terminator) ≤ s + slots (blockBy c t j b)
-unfolding blockBy
-room-by c true j s b e f = omega (arith, count-targets (b .terminator), jumps-room c j s b f)
-room-by c false j s b e f = let z : _≡_ {A = ℕ} 0 1 = cc in absurd (omega arith)
-
 module _ (c : Context) (emitted all edges endings counts named numbers : List ℕ) where
-  own-walk : (k j s : ℕ) (bs : List BasicBlock) → Walk c (marked emitted) all edges endings counts named numbers k j s bs → Fine (blocks c j (keepBy (marked emitted) k bs)) → (i : ℕ) → i < length bs → marked emitted (k + i) ≡ true → getD counts (k + i) 0 ≤ getD edges (k + i + 1) 0
-  own-walk k j s [] w f i l m = absurd (omega arith)
-  own-walk k j s (b ∷ bs) w f zero l m =
-      let z : k + 0 ≡ k = omega arith in
-      let F = fine-both c (marked emitted) k j true b bs f in
-      rw z (omega (arith, counted w, past w, room-by c (marked emitted k) j s b (rw z at m) (F .first)))
-  own-walk k j s (b ∷ bs) w f (suc i) l m =
-      let z : k + suc i ≡ suc k + i = omega arith in
-      rw z (own-walk (suc k) _ _ bs (walk-rest w) (fine-both c (marked emitted) k j true b bs f .second) i (omega arith) (rw z at m))
-
   module _ (xs : List Start) (found : (id : ℕ) → lastStart xs id ≡ pick (marked emitted (numberFrom 0 all id)) (to (getD edges (numberFrom 0 all id) 0)) nowhere) where
     landed-walk : (k j s : ℕ) (bs : List BasicBlock) → Walk c (marked emitted) all edges endings counts named numbers k j s bs → Fine (blocks c j (keepBy (marked emitted) k bs)) → landedFrom emitted edges endings counts named numbers k (length bs) ≡ landedOf (landing xs (jumpsFrom c j s (keepBy (marked emitted) k bs)))
     unfolding landedFrom keepBy jumpsFrom landing landedOf
@@ -202,14 +158,6 @@ module _ {c : Context} (emitted : List ℕ) {edges endings counts named numbers 
       (λ h. rw (t .edge number (omega (arith, h .inside, ids-count bs))))
       (λ h. let p = ap (marked emitted) (h .0) ∙ t .past in rw p)
       (number-law (ids bs) id (omega (arith, ids-count bs, t .few)))
-
-  -- the jumps stand at slots
-  pub own-slots : OwnSlots emitted edges counts (length bs)
-  own-slots =
-      record {
-        few = t .few;
-        own = λ k l m. let z : 0 + k ≡ k = omega arith in rw z at (own-walk c emitted (ids bs) edges endings counts named numbers 0 0 1 bs walk fine k l (rw z m));
-      }
 
   -- the refusals 18 and 19 by block numbers are those of the unit
   pub landed-unit : landedFrom emitted edges endings counts named numbers 0 (length bs) ≡ landedOf (unitLanding c (marked emitted) bs)

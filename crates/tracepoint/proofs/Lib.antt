@@ -7,7 +7,6 @@ pub mod Conditions
 pub mod Measuring
 pub mod Tables
 pub mod Compiling
-pub mod Distance
 pub mod Landing
 pub mod Put
 pub mod Targets

@@ -10,7 +10,8 @@ use lib.ListN.{length, getD, set, drop, drop-of-length-le}
 use lib.Seq.{getD-set-same, getD-set-other, drop-cons}
 use Rattle.wire.specs.Pick.{pick, both, either}
 use Rattle.flow.specs.Node.{among}
-use Rattle.tracepoint.specs.Inner.{marked, conditionFrom, markFrom}
+use Rattle.jumps.specs.Landed.{marked}
+use Rattle.tracepoint.specs.Inner.{conditionFrom, markFrom}
 
 -- ---- searching from the front
 

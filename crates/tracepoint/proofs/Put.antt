@@ -19,7 +19,7 @@ use Rattle.ir.specs.declared.Instruction.{Instruction}
 use Rattle.ir.specs.declared.Terminator.{Terminator}
 use Rattle.record.specs.declared.Record.{Record}
 use Rattle.record.specs.declared.Record.the-variants as R
-use Rattle.record.proofs.Opcodes.{both-true}
+use Rattle.opcode.proofs.Opcodes.{both-true}
 use Rattle.lower.specs.Op.{plain, map, ja, jne, slotsOf, Lowered, becomes, refused}
 use Rattle.lower.specs.Operand.{fits16}
 use Rattle.lower.specs.Instruction.{instruction}

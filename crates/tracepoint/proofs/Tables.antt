@@ -28,7 +28,7 @@ use Rattle.flow.proofs.Numbers.{blockAt, nodes-are}
 use Rattle.flow.proofs.Laws.{linked-target, linked-flag}
 use Rattle.layout.specs.Emitted.{targets, nodes}
 use Rattle.unitfile.specs.declared.Found.{Found}
-use Rattle.tracepoint.specs.Inner.{marked}
+use Rattle.jumps.specs.Landed.{marked}
 use Rattle.tracepoint.specs.Notes.{countOf, firstTarget, secondTarget, countsOf, pairsOf, Noted}
 use Rattle.tracepoint.specs.Stages.{Surveyed, Linked}
 
@@ -45,7 +45,7 @@ unfolding countsOf
 counts-length [] = refl
 counts-length (b ∷ bs) = ap suc (counts-length bs)
 
-pairs-length : (bs : List BasicBlock) → length (pairsOf bs) ≡ 2 * length bs
+pub pairs-length : (bs : List BasicBlock) → length (pairsOf bs) ≡ 2 * length bs
 unfolding pairsOf
 pairs-length [] = refl
 pairs-length (b ∷ bs) = omega (arith, pairs-length bs)
@@ -70,7 +70,6 @@ module _ (b l : List ℕ) {found : Found} {n : ℕ} {vs : List ℕ} (answer : su
         ids = ap (take (length (blocksOf (parse b)))) p ∙ front-ids b is₀ h;
         endings = ap (take (length (blocksOf (parse b)))) q ∙ front-endings b es₀ e;
         ids-size = ap length p ∙ length-sets is₀ 0 (survey.ids (blocksOf (parse b))) ∙ h;
-        endings-size = ap length q ∙ length-sets es₀ 0 (survey.endings (blocksOf (parse b))) ∙ e;
       }
 
 -- ---- a unit's blocks for control flow, by the lists of their counts and targets
@@ -131,9 +130,6 @@ module _ (em : List ℕ) {b : List ℕ} {found : Found} {vs is es ms cs ts ms′
   abbrev bs : List BasicBlock
   bs = blocksOf (parse b)
 
-  counts-size : length counts ≡ 1024
-  counts-size = ap length (k .counts) ∙ length-sets cs 0 (countsOf bs) ∙ size
-
   named-size : length named ≡ 2048
   named-size = ap length (k .targets) ∙ length-sets ts 0 (pairsOf bs) ∙ room
 
@@ -191,7 +187,4 @@ module _ (em : List ℕ) {b : List ℕ} {found : Found} {vs is es ms cs ts ms′
         told = record { ending = λ i h. front-at es (survey.endings bs) (length bs) i (s .endings) h; count = counts-at; names = named-at };
         emitted-size = emitted-size;
         numbers-size = numbers-size;
-        endings-size = s .endings-size;
-        counts-size = counts-size;
-        named-size = named-size;
       }

@@ -42,6 +42,7 @@ use Rattle.tracepoint.proofs.Lists.{sets-append}
 use Rattle.tracepoint.proofs.Noting.{flatPairs, pair-length, pairs-flat}
 use Rattle.tracepoint.proofs.Put.{joined}
 use Rattle.tracepoint.proofs.Steps.{rest, Goes, rest-first, goes-first, Stepped, stepped, stopped}
+use Rattle.tracepoint.proofs.Tables.{pairs-length}
 use Rattle.tracepoint.proofs.Targets.{landing-append, Leads, Written, written-record, leads}
 
 -- ---- operations after operations
@@ -112,11 +113,6 @@ after-block e st (R.Map start len) = sym (add-zero (st .block))
 after-block e st (R.Block id) = sym (add-zero (st .block))
 after-block e st (R.Instruction i) = block-pick (st .emits) _ st refl ∙ sym (add-zero (st .block))
 after-block e st (R.Terminator u) = omega arith
-
-pairs-length : (bs : List BasicBlock) → length (pairsOf bs) ≡ 2 * length bs
-unfolding pairsOf
-pairs-length [] = refl
-pairs-length (x ∷ bs) = let h = pairs-length bs in omega arith
 
 -- ---- at the cursor d, in the state st, at slot s and number t, with the lists cs and rs
 

@@ -1,6 +1,5 @@
 -- `compile_tracepoint`: the answer and both buffers at exit.
 use Prim.Native.Nat.{ℕ, _*_, _/_}
-use mathlib.Core.Bool.{Bool, true, false}
 use mathlib.Core.List.{List, []}
 use lib.Dec.{leb}
 use lib.IntN.{ℤ, pos}

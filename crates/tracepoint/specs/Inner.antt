@@ -1,24 +1,19 @@
 -- What the crate's private functions answer: the passes by records and by block numbers. No public promise names these.
-use Prim.Native.Nat.{ℕ, suc, _+_}
+use Prim.Native.Nat.{ℕ, suc}
 use mathlib.Core.Bool.{Bool, true, false}
 use mathlib.Core.List.{List, [], _∷_}
 use lib.Dec.{eqb}
-use lib.ListN.{getD, set}
+use lib.ListN.{set}
 use Rattle.wire.specs.Pick.{pick}
 use Rattle.record.specs.declared.Record.{Record}
 use Rattle.record.specs.declared.Record.the-variants as R
 use Rattle.frame.specs.Cell.{frameOf}
-use Rattle.lower.specs.Op.{slotsOf}
 use Rattle.lower.specs.Instruction.{instruction, scratchAfter}
 use Rattle.lower.specs.Terminator.{terminator}
-use Rattle.layout.specs.Layout.{Laid, laid, refusedAt, Context, at, ops}
+use Rattle.layout.specs.Layout.{Laid, laid, Context, at, ops}
 use Rattle.layout.specs.Jumps.{Jump, patches}
-use Rattle.layout.specs.Inner.{mapsOf}
+use Rattle.jumps.specs.Landed.{marked}
 use Rattle.tracepoint.specs.declared.walk.State.{State}
-
--- 1 at a number
-unfoldable pub marked : List ℕ → ℕ → Bool
-marked l k = eqb (getD l k 0) 1
 
 -- the state after a record
 unfoldable pub after : (ℕ → Bool) → State → Record → State

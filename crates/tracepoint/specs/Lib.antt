@@ -3,5 +3,4 @@ pub mod Inner
 pub mod Notes
 pub mod Stages
 pub mod Tables
-pub mod Landed
 pub mod Put

@@ -19,7 +19,7 @@ use Rattle.layout.specs.Jumps.{lands, starts}
 use Rattle.layout.specs.Inner.{keepBy, mapsOf}
 use Rattle.tracepoint.specs.declared.Compiled.{Compiled}
 use Rattle.tracepoint.specs.Compile.{Lowering, lowered, onLaid, roomed, codeOf, relocsOf, front}
-use Rattle.tracepoint.specs.Inner.{marked}
+use Rattle.jumps.specs.Landed.{marked}
 use Rattle.tracepoint.specs.Notes.{pairsOf}
 use Rattle.tracepoint.specs.Tables.{Tables, Endings, unitLanding}
 
@@ -30,7 +30,6 @@ pub record Surveyed (b : List ℕ) (found : Found) (vs is es : List ℕ) : Type 
   pub ids : take (length (blocksOf (parse b))) is ≡ survey.ids (blocksOf (parse b))
   pub endings : take (length (blocksOf (parse b))) es ≡ survey.endings (blocksOf (parse b))
   pub ids-size : length is ≡ 1024
-  pub endings-size : length es ≡ 1024
 
 -- then: which blocks are emitted, the numbers of the blocks that their targets mean, and what their terminators name
 pub record Linked (bs : List BasicBlock) (emitted numbers endings counts named : List ℕ) : Type 0 where
@@ -41,9 +40,6 @@ pub record Linked (bs : List BasicBlock) (emitted numbers endings counts named :
   pub told : Endings bs endings counts named
   pub emitted-size : length emitted ≡ 1024
   pub numbers-size : length numbers ≡ 2048
-  pub endings-size : length endings ≡ 1024
-  pub counts-size : length counts ≡ 1024
-  pub named-size : length named ≡ 2048
 
 -- then: a unit of which nothing is refused, how many slots and relocations it takes, and that its jumps land
 pub record Ready (c : Context) (e : ℕ → Bool) (bs : List BasicBlock) (edges numbers : List ℕ) (n m : ℕ) : Type 0 where

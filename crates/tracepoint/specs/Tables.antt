@@ -11,15 +11,13 @@ use Rattle.flow.specs.Linked.{numberFrom}
 use Rattle.survey.specs.Surveyed as survey
 use Rattle.lower.specs.Op.{Op, slotsOf}
 use Rattle.layout.specs.Emitted.{nodes}
-use Rattle.layout.specs.Layout.{Laid, laid, refusedAt, Context, blocks, unitOps, ops}
-use Rattle.layout.specs.Jumps.{Landing, lands, noTarget, tooFar, starts, jumps, landing}
+use Rattle.layout.specs.Layout.{Laid, laid, refusedAt, Context, unitOps, ops}
+use Rattle.layout.specs.Jumps.{Landing, starts, jumps, landing}
 use Rattle.layout.specs.Inner as layout
 use Rattle.layout.specs.Inner.{keepBy, mapsOf}
 use Rattle.tracepoint.specs.Notes.{countsOf, pairsOf}
 use Rattle.tracepoint.specs.declared.measure.Size.{Size}
 use Rattle.tracepoint.specs.declared.measure.Size.the-variants as S
-use Rattle.tracepoint.specs.declared.jumps.Landed.{Landed}
-use Rattle.tracepoint.specs.declared.jumps.Landed.the-variants as L
 
 -- how many slots and relocations there are, or the first refusal and its place
 unfoldable pub sizeOf : Laid → Size
@@ -52,12 +50,7 @@ pub record Endings (bs : List BasicBlock) (endings counts named : List ℕ) : Ty
   pub count : (k : ℕ) → k < length bs → getD counts k 0 ≡ getD (countsOf bs) k 0
   pub names : (k : ℕ) → k < 2 * length bs → getD named k 0 ≡ getD (pairsOf bs) k 0
 
--- where the jumps land, as an answer
-unfoldable pub landedOf : Landing → Landed
-landedOf lands = L.Lands
-landedOf (noTarget place id) = L.NoTarget place id
-landedOf (tooFar place id) = L.TooFar place id
-
+-- where the jumps land
 abbrev pub unitLanding : Context → (ℕ → Bool) → List BasicBlock → Landing
 unitLanding c e bs = landing (starts c (keepBy e 0 bs)) (jumps c (keepBy e 0 bs))
 

@@ -2,11 +2,10 @@
 use crate::Compiled;
 use crate::Fault;
 use crate::context;
-use crate::jumps;
-use crate::jumps::Landed;
 use crate::measure;
 use crate::measure::Size;
 use crate::write;
+use jumps::Landed;
 use unitfile::Found;
 use unitfile::ReadUnit;
 ghost use mathlib.Core.Path.{_≡_};
@@ -15,7 +14,8 @@ ghost use lib.ListN.{length};
 ghost use Rattle.unitfile.specs.Unit.{parse, readUnit};
 ghost use Rattle.survey.specs.Surveyed.{blocksOf};
 ghost use Rattle.tracepoint.specs.Compile.{loweringOf};
-ghost use Rattle.tracepoint.specs.Inner.{marked, contextOf};
+ghost use Rattle.jumps.specs.Landed.{marked};
+ghost use Rattle.tracepoint.specs.Inner.{contextOf};
 ghost use Rattle.tracepoint.specs.Stages.{Surveyed, Linked, Ready, loweringBy, loweredBy, Answers};
 
 // The refusals 21 and 22; or the code and the relocations, written.
@@ -83,8 +83,15 @@ fn compile_linked(
         Size::Refused(place, reason) => Compiled::Refused(Fault::Instruction(place, reason)),
         Size::Slots(slots, maps) => {
             let head = found.head;
-            let n = head.blocks as usize;
-            match jumps::check_jumps(n, emitted, &edges, endings, counts, named, numbers) {
+            match jumps::check_jumps(
+                head.blocks,
+                emitted,
+                &edges,
+                endings,
+                counts,
+                named,
+                numbers,
+            ) {
                 Landed::NoTarget(place, id) => Compiled::Refused(Fault::NoTarget(place, id)),
                 Landed::TooFar(place, id) => Compiled::Refused(Fault::TooFar(place, id)),
                 Landed::Lands => write_roomed(

@@ -1,7 +1,6 @@
 // From a unit's bytes to instruction bytes and relocations.
 mod compile;
 mod context;
-mod jumps;
 mod measure;
 mod walk;
 mod write;

@@ -23,7 +23,8 @@ ghost use Rattle.survey.specs.Inner.{atEnd};
 ghost use Rattle.lower.specs.Held.{endingOps};
 ghost use Rattle.layout.specs.Layout.{at};
 ghost use Rattle.layout.specs.Inner.{made};
-ghost use Rattle.tracepoint.specs.Inner.{marked, contextOf, recordOps};
+ghost use Rattle.jumps.specs.Landed.{marked};
+ghost use Rattle.tracepoint.specs.Inner.{contextOf, recordOps};
 ghost use Rattle.tracepoint.specs.Tables.{Sized, Measured};
 
 // Slots and relocations, or the place of the record that is refused.

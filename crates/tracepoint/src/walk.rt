@@ -3,7 +3,8 @@ use record::Record;
 ghost use mathlib.Core.Path.{_≡_};
 ghost use Prim.Native.Nat.{_≤_};
 ghost use lib.ListN.{length};
-ghost use Rattle.tracepoint.specs.Inner.{marked, after};
+ghost use Rattle.jumps.specs.Landed.{marked};
+ghost use Rattle.tracepoint.specs.Inner.{after};
 
 pub struct State {
     pub block: usize,

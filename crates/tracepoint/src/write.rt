@@ -1,6 +1,5 @@
 // The code and the relocations of a unit, written where there is room for all of them.
 use crate::context;
-use crate::jumps;
 use crate::walk;
 use crate::walk::State;
 use insn::Insn;
@@ -31,7 +30,8 @@ ghost use Rattle.layout.specs.Layout.{at, ops, unitOps};
 ghost use Rattle.layout.specs.Jumps.{starts, lands, distance};
 ghost use Rattle.layout.specs.Code.{insns, codeBytes, relocations};
 ghost use Rattle.layout.specs.Inner.{keepBy, plainOps};
-ghost use Rattle.tracepoint.specs.Inner.{marked, contextOf, recordOps};
+ghost use Rattle.jumps.specs.Landed.{marked};
+ghost use Rattle.tracepoint.specs.Inner.{contextOf, recordOps};
 ghost use Rattle.tracepoint.specs.Tables.{Tables, Room, unitLanding};
 ghost use Rattle.tracepoint.specs.Put.{slotTo, jumpOf, reaches, RoomAt, Puts};
 

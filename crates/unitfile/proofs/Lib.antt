@@ -6,5 +6,6 @@ pub mod Sizes
 pub mod Same
 pub mod MapLaws
 pub mod Whole
+pub mod NamePlace
 pub mod Units
 pub mod Theorems

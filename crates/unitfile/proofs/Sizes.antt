@@ -16,26 +16,26 @@ use Rattle.ir.specs.declared.Terminator.{Terminator}
 use Rattle.ir.specs.declared.Terminator.the-variants.{Return, Jump, Branch}
 use Rattle.ir.proofs.OperandLaws.{pushed-last}
 use Rattle.record.specs.Frame.{lengthAt, kindAt, nextAt}
-use Rattle.record.specs.Operand.{operandAt, onOperand, operandsAt}
+use Rattle.operand.specs.Operand.{operandAt, onOperand, operandsAt}
 use Rattle.wire.specs.Pick.{both}
 use Rattle.record.specs.Instruction.{countAt, joined, sized, instructionAt}
 use Rattle.record.specs.Terminator.{returning, branching, terminatorAt}
 use Rattle.record.specs.Payload.{headAt, headOk, ofInstruction, ofTerminator, payloadAt}
 use Rattle.record.specs.declared.Record.{Record}
 use Rattle.record.specs.declared.Record.the-variants as R
-use Rattle.record.specs.declared.operand.ReadOperand.{ReadOperand}
-use Rattle.record.specs.declared.operand.ReadOperand.the-variants as O
-use Rattle.record.specs.declared.operand.ReadOperands.{ReadOperands}
-use Rattle.record.specs.declared.operand.ReadOperands.the-variants as L
-use Rattle.record.specs.declared.opcode.ReadOpcode.{ReadOpcode}
-use Rattle.record.specs.declared.opcode.ReadOpcode.the-variants as C
+use Rattle.operand.specs.declared.ReadOperand.{ReadOperand}
+use Rattle.operand.specs.declared.ReadOperand.the-variants as O
+use Rattle.operand.specs.declared.ReadOperands.{ReadOperands}
+use Rattle.operand.specs.declared.ReadOperands.the-variants as L
+use Rattle.opcode.specs.declared.ReadOpcode.{ReadOpcode}
+use Rattle.opcode.specs.declared.ReadOpcode.the-variants as C
 use Rattle.record.specs.declared.instruction.ReadInstruction.{ReadInstruction}
 use Rattle.record.specs.declared.instruction.ReadInstruction.the-variants as I
 use Rattle.record.specs.declared.terminator.ReadTerminator.{ReadTerminator}
 use Rattle.record.specs.declared.terminator.ReadTerminator.the-variants as T
 use Rattle.record.specs.declared.payload.Payload.{Payload}
 use Rattle.record.specs.declared.payload.Payload.the-variants as P
-use Rattle.record.proofs.Opcodes.{both-true}
+use Rattle.opcode.proofs.Opcodes.{both-true}
 use Rattle.record.proofs.Instructions.{right-size}
 use Rattle.unitfile.specs.declared.Cursor.{Cursor}
 use Rattle.unitfile.specs.declared.Step.the-variants.{Go}

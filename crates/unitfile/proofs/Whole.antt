@@ -2,12 +2,10 @@
 use mathlib.Core.Path.{_≡_, refl, ap, _∙_, sym, subst}
 use mathlib.Core.List.{List, [], _∷_}
 use mathlib.Core.Logic.{⊎-elim}
-use Prim.Native.Nat.{ℕ, _≤_, _<_}
+use Prim.Native.Nat.{ℕ, _<_}
 use native.Mathlib.Nat.{zero-add}
 use native.Mathlib.Omega.{arith}
-use lib.Dec.{ltb}
-use lib.ListN.{length, getD, List·getD-eq-default}
-use Rattle.wire.specs.Pick.{pick}
+use lib.ListN.{length, getD}
 use types.Run.{OneOf}
 use denote.Enum.Declared.{tagOf}
 use Rattle.record.proofs.Record.{the-type}
@@ -18,15 +16,14 @@ use Rattle.record.specs.declared.Fault.{Fault}
 use Rattle.record.specs.declared.Fault.the-variants.{NoHead, NotDue}
 use Rattle.record.specs.declared.Read.{Read}
 use Rattle.record.specs.declared.Read.the-variants as Re
-use Rattle.unitfile.specs.Names.{part, Names, named, namesAt, firstRecord, Opened, opened, shut, withNames, onHead, openUnit}
+use Rattle.unitfile.specs.Names.{Names, named, namesAt, firstRecord, Opened, opened, shut, withNames, onHead, openUnit}
 use Rattle.unitfile.specs.Names as ns
 use Rattle.unitfile.specs.Inner.{headOf, mapOf, mapsOf, mapFrom, bodyOf}
 use Rattle.unitfile.specs.Records.{Placed, Records, records, cons, recordsFrom}
 use Rattle.unitfile.specs.Records as rs
 use Rattle.unitfile.specs.Unit.{parsed, refused, none, group, withRecords, firstBlock, onOpened, parse, foundWith, foundIn, readUnit}
-use Rattle.unitfile.specs.MapName.{nameOf, namedOf}
+use Rattle.unitfile.specs.MapName.{nameOf}
 use Rattle.unitfile.specs.declared.Found.{Found}
-use Rattle.unitfile.specs.declared.Named.the-variants as N
 use Rattle.unitfile.specs.declared.ReadUnit.the-variants as U
 use Rattle.unitfile.specs.declared.names.MapAt.the-variants as M
 use Rattle.unitfile.specs.declared.names.Maps.the-variants as Ms
@@ -183,14 +180,6 @@ module _ (b : List ℕ) where
 
 -- ---- a map's name
 
-pub name-refused : (b : List ℕ) (k : ℕ) (f : Fault) → readUnit b ≡ U.Refused f → nameOf (parse b) k ≡ []
-unfolding nameOf
-name-refused b k f e = rw (refused-whole b f e)
-
-pub named-refused : (b : List ℕ) (k : ℕ) (f : Fault) → readUnit b ≡ U.Refused f → namedOf (parse b) k ≡ N.Refused f
-unfolding namedOf
-named-refused b k f e = rw (refused-whole b f e)
-
 module _ (b : List ℕ) (found : Found) (w : Whole b found) where
   pub names-all : length (w .names) ≡ found .head .maps
   names-all = let n = names-count b _ [] (w .first) (w .names) (found .body) (w .maps) in omega arith
@@ -198,13 +187,6 @@ module _ (b : List ℕ) (found : Found) (w : Whole b found) where
   pub name-is : (k : ℕ) → nameOf (parse b) k ≡ getD (w .names) k []
   unfolding nameOf
   name-is k = rw (w .unit)
-
-  pub named-is : (k : ℕ) → namedOf (parse b) k ≡ pick (ltb k (found .head .maps)) N.Named N.NoSuchMap
-  unfolding namedOf
-  named-is k = rw (w .unit, names-all)
-
-  pub name-none : (k : ℕ) → found .head .maps ≤ k → nameOf (parse b) k ≡ []
-  name-none k h = let n = names-all in name-is k ∙ List·getD-eq-default (w .names) [] {n = k} (omega arith)
 
   -- where the name of a map lies
   pub name-place : (k : ℕ) → k < found .head .maps → NameAt b (w .first) k (nameOf (parse b) k)
@@ -221,13 +203,6 @@ module _ (b : List ℕ) (found : Found) (w : Whole b found) where
       let z = sym (w .head) ∙ e in
       let y : w .first ≡ first = cc in
       subst (λ (x : ℕ). NameAt b x k (nameOf (parse b) k)) y (name-place k l)
-
-pub name-part : {b : List ℕ} {first k : ℕ} {name : List ℕ} → NameAt b first k name → (start len next : ℕ) → mapFrom b first k ≡ M.Is start len next → name ≡ part start len b
-name-part {b} n start len next e =
-    let z = sym (n .found) ∙ e in
-    let p : n .start ≡ start = cc in
-    let q : n .len ≡ len = cc in
-    n .name-is ∙ ap (λ (x : ℕ). part x (n .len) b) p ∙ ap (λ (x : ℕ). part start x b) q
 
 pub name-there : {b : List ℕ} {first k : ℕ} {name : List ℕ} → NameAt b first k name → (f : Fault) → mapFrom b first k ≡ M.Refused f → ⊥
 name-there n f e =

@@ -11,7 +11,7 @@ use record::Record;
 ghost use mathlib.Core.Path.{_≡_};
 ghost use Rattle.unitfile.specs.Records.{nextRecord};
 ghost use Rattle.unitfile.specs.Unit.{readUnit, parse};
-ghost use Rattle.unitfile.specs.MapName.{nameOf, namedOf};
+ghost use Rattle.unitfile.specs.MapName.{placeOf, nameOf, namedOf};
 
 // Where reading stands among the blocks: at which byte, how many blocks are still due, and whether one is open.
 pub struct Cursor {
@@ -45,6 +45,13 @@ pub enum Named {
     Refused(Fault),
 }
 
+// Where a map's name lies: its first byte in the unit, and how many bytes it has.
+pub enum MapPlace {
+    At { start: usize, len: usize },
+    NoSuchMap,
+    Refused(Fault),
+}
+
 // The record at a cursor, in a unit of so many maps.
 pub fn next_record(s: &[u8], maps: u16, c: Cursor) -> Step
     ensures { λ r. ⌜ r ≡ nextRecord (now (s .entry)) maps c ⌝ }
@@ -73,44 +80,57 @@ pub fn read_unit(s: &[u8]) -> ReadUnit
     walk::read_blocks(s, found)
 }
 
+// Where the bytes of a map's name lie inside the unit.
+pub fn map_place(s: &[u8], map: u32) -> MapPlace
+    ensures { λ r. ⌜ r ≡ placeOf (now (s .entry)) (parse (now (s .entry))) map ⌝ }
+{
+    match read_unit(s) {
+        ReadUnit::Unit(found) => {
+            let head = found.head;
+            if map < head.maps as u32 {
+                let HeadAt::Is(_, first) = names::head_at(s) else {
+                    return MapPlace::NoSuchMap;
+                };
+                let MapAt::Is {
+                    start,
+                    len,
+                    next: _,
+                } = names::map_from(s, first, map)
+                else {
+                    return MapPlace::NoSuchMap;
+                };
+                return MapPlace::At {
+                    start: start,
+                    len: len,
+                };
+            }
+            MapPlace::NoSuchMap
+        }
+        ReadUnit::Refused(f) => MapPlace::Refused(f),
+    }
+}
+
 // The bytes of a map's name inside the unit; none for a refusal or where there is no such map.
 pub fn map_name(s: &[u8], map: u32) -> &[u8]
     ensures { λ r. ⌜ now r ≡ nameOf (parse (now (s .entry))) map ⌝ }
 {
-    let ReadUnit::Unit(found) = read_unit(s) else {
-        return &s[0..0];
-    };
-    let head = found.head;
-    if map < head.maps as u32 {
-        let HeadAt::Is(_, first) = names::head_at(s) else {
-            return &s[0..0];
-        };
-        let MapAt::Is {
-            start,
-            len,
-            next: _,
-        } = names::map_from(s, first, map)
-        else {
-            return &s[0..0];
-        };
-        let end = start + len;
-        return &s[start..end];
+    match map_place(s, map) {
+        MapPlace::At { start, len } => {
+            let end = start + len;
+            &s[start..end]
+        }
+        MapPlace::NoSuchMap => &s[0..0],
+        MapPlace::Refused(_) => &s[0..0],
     }
-    &s[0..0]
 }
 
 // What tells a refusal and a missing map from an empty name.
 pub fn map_named(s: &[u8], map: u32) -> Named
     ensures { λ r. ⌜ r ≡ namedOf (parse (now (s .entry))) map ⌝ }
 {
-    match read_unit(s) {
-        ReadUnit::Unit(found) => {
-            let head = found.head;
-            if map < head.maps as u32 {
-                return Named::Named;
-            }
-            Named::NoSuchMap
-        }
-        ReadUnit::Refused(f) => Named::Refused(f),
+    match map_place(s, map) {
+        MapPlace::At { start: _, len: _ } => Named::Named,
+        MapPlace::NoSuchMap => Named::NoSuchMap,
+        MapPlace::Refused(f) => Named::Refused(f),
     }
 }

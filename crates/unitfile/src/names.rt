@@ -42,7 +42,7 @@ pub(crate) fn map_at(s: &[u8], at: usize) -> MapAt
 
 // The map after k from a byte on.
 pub(crate) fn map_from(s: &[u8], first: usize, k: u32) -> MapAt
-    ensures { λ r. ⌜ (r ≡ mapFrom (now (s .entry)) first k) × Lies (length (now (s .entry))) r ⌝ }
+    ensures { λ r. ⌜ r ≡ mapFrom (now (s .entry)) first k ⌝ }
 {
     let mut at = first;
     let mut left = k;

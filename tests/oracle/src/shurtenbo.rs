@@ -12,8 +12,7 @@ extern "C" {
         code_len: usize,
         relocs: *mut u32,
         relocs_len: usize,
-        answer: *mut i64,
-        answer_len: usize,
+        answer: *mut [u64; 3],
     );
 }
 
@@ -26,7 +25,7 @@ impl BackEnd for Shurtenbo {
 
     fn compile(&self, unit: &[u8], code: &mut [u8], relocs: &mut [u32]) -> [i64; 3] {
         // A number that no answer holds, so that one left unwritten shows.
-        let mut answer = [i64::MIN; 3];
+        let mut answer = [u64::MAX - 1; 3];
         // SAFETY: each pointer comes with the length of the slice it was taken from; the library
         // keeps none of them.
         unsafe {
@@ -37,10 +36,9 @@ impl BackEnd for Shurtenbo {
                 code.len(),
                 relocs.as_mut_ptr(),
                 relocs.len(),
-                answer.as_mut_ptr(),
-                answer.len(),
+                &mut answer,
             );
         }
-        answer
+        answer.map(|n| n as i64)
     }
 }

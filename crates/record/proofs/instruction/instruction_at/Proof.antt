@@ -7,8 +7,8 @@ use borrow.Author.Needs.{needs}
 use mir.Syntax.{w32}
 use Rattle.wire.specs.Le.{byteAt}
 use Rattle.wire.proofs.Sign.{back}
-use Rattle.record.specs.declared.opcode.Fields.{Fields}
-use Rattle.record.specs.Opcode.{opcodeOf}
+use Rattle.opcode.specs.declared.Fields.{Fields}
+use Rattle.opcode.specs.Opcode.{opcodeOf}
 use Rattle.record.specs.Instruction.{fieldsAt, countAt, joined, sized, instructionAt}
 use Rattle.record.proofs.Instructions.{right-size, fields-read, joined-broken}
 use Rattle.record.proofs.instruction.instruction_at.Statement.{statement}
@@ -20,9 +20,9 @@ is-sized c = sym (c .before .sized .ensures) ∙ c .if1 .taken
 size : (c : tie.Then1) → c .before .before .before .args .len ≡ 16 + 9 * byteAt (c .before .before .before .args .s .now) (c .before .before .before .args .at + 6)
 size c = right-size _ _ _ (is-sized c)
 
-read-opcode : (c : tie.After-opcode) → opcodeOf (fieldsAt (c .before .before .before .before .before .before .before .before .args .s .now) (c .before .before .before .before .before .before .before .before .args .at)) (c .before .before .before .before .before .before .before .before .args .maps) ≡ c .opcode .result
+read-opcode : (c : tie.After-opcode-of) → opcodeOf (fieldsAt (c .before .before .before .before .before .before .before .before .args .s .now) (c .before .before .before .before .before .before .before .before .args .at)) (c .before .before .before .before .before .before .before .before .args .maps) ≡ c .opcode-of .result
 read-opcode c =
-    sym (c .opcode .ensures ∙ ap (λ (f : Fields). opcodeOf f (c .before .before .before .before .before .before .before .before .args .maps)) (fields-read (c .before .before .before .before .before .before .before .before .args .s .now) (c .before .before .before .before .before .before .before .before .args .at) _ _ (back w32 (c .before .before .get-i32 .result) (c .before .before .get-i32 .ok) ∙ c .before .before .get-i32 .ensures) (c .before .get-u32 .ensures)))
+    sym (c .opcode-of .ensures ∙ ap (λ (f : Fields). opcodeOf f (c .before .before .before .before .before .before .before .before .args .maps)) (fields-read (c .before .before .before .before .before .before .before .before .args .s .now) (c .before .before .before .before .before .before .before .before .args .at) _ _ (back w32 (c .before .before .get-i32 .result) (c .before .before .get-i32 .ok) ∙ c .before .before .get-i32 .ensures) (c .before .get-u32 .ensures)))
 
 sized-requires : tie.Need-sized-requires
 sized-requires c κs = search needs
@@ -51,8 +51,8 @@ add-get-u32 c = search needs
 get-u32-requires : tie.Need-get-u32-requires
 get-u32-requires c κs = search needs
 
-opcode-requires : tie.Need-opcode-requires
-opcode-requires c κs = search needs
+opcode-of-requires : tie.Need-opcode-of-requires
+opcode-of-requires c κs = search needs
 
 enum-known-o : tie.Need-enum-known-o
 enum-known-o c = search needs
@@ -110,7 +110,7 @@ instruction-at-spec =
     get-i32-requires
     add-get-u32
     get-u32-requires
-    opcode-requires
+    opcode-of-requires
     enum-known-o
     enum-told
     returns

@@ -3,7 +3,7 @@ use native.Mathlib.Omega.{arith}
 use borrow.Author.Needs.{needs}
 use mir.Syntax.{w16, w32}
 use Rattle.recordwriter.specs.Bytes.{payloadBytes}
-use Rattle.recordwriter.proofs.Pieces.{number, _▸_}
+use Rattle.operand.proofs.Pieces.{number, _▸_}
 use Rattle.recordwriter.proofs.put.put_head.Statement.{statement}
 use Rattle.recordwriter.proofs.put.put_head.Tie as tie
 

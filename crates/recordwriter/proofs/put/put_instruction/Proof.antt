@@ -5,9 +5,11 @@ use borrow.Author.Needs.{needs}
 use mir.Syntax.{w32}
 use Rattle.wire.specs.Le.{store}
 use Rattle.ir.specs.Operands.{listOf}
-use Rattle.record.specs.declared.opcode.Fields.{Fields}
+use Rattle.opcode.specs.declared.Fields.{Fields}
 use Rattle.recordwriter.specs.Bytes.{instructionBytes}
-use Rattle.recordwriter.proofs.Pieces.{byte, number, signed, operands, instruction-pieces, _▸_}
+use Rattle.operand.proofs.Pieces.{byte, number, signed, _▸_}
+use Rattle.operand.proofs.OperandBytes.{operands}
+use Rattle.recordwriter.proofs.Pieces.{instruction-pieces}
 use Rattle.recordwriter.proofs.put.put_instruction.Statement.{statement}
 use Rattle.recordwriter.proofs.put.put_instruction.Tie as tie
 
@@ -62,16 +64,7 @@ add-put-operands c =
     omega (arith, start .pre .1, start .good .0)
 
 put-operands-requires : tie.Need-put-operands-requires
-put-operands-requires c κs =
-    let numbered = c .before .before .before in
-    let placed = numbered .before .before .before .before in
-    let zeroed = placed .before .before .before .before .before in
-    let counted = zeroed .before .before .before .before in
-    let sized = counted .before .before .before .before in
-    let coded = sized .before .before .before .before in
-    let began = coded .before .before .before .before in
-    omega
-    (arith, began .before .before .before .before .before .pre .1, numbered .put-u322 .kept .0, placed .put-i32 .kept .0, zeroed .put-u84 .kept .0, counted .put-u83 .kept .0, sized .put-u82 .kept .0, coded .put-u8 .kept .0, began .put-u32 .kept .0)
+put-operands-requires c κs = search needs
 
 same-length : tie.Need-same-length
 same-length c = search needs

@@ -3,7 +3,7 @@ use native.Mathlib.Omega.{arith}
 use borrow.Author.Needs.{needs}
 use mir.Syntax.{w16}
 use Rattle.recordwriter.specs.Bytes.{payloadBytes, recordBytes}
-use Rattle.recordwriter.proofs.Pieces.{number, piece, _▸_}
+use Rattle.operand.proofs.Pieces.{number, piece, _▸_}
 use Rattle.recordwriter.proofs.put.put_record.Statement.{statement}
 use Rattle.recordwriter.proofs.put.put_record.Tie as tie
 

@@ -4,7 +4,8 @@ use borrow.Author.Needs.{needs}
 use mir.Syntax.{w32}
 use Rattle.recordwriter.specs.Bytes.{terminatorBytes}
 use Rattle.recordwriter.proofs.Length.{return-length, jump-length, branch-length}
-use Rattle.recordwriter.proofs.Pieces.{byte, number, operand, _▸_}
+use Rattle.operand.proofs.Pieces.{byte, number, _▸_}
+use Rattle.operand.proofs.OperandBytes.{operand}
 use Rattle.recordwriter.proofs.put.put_terminator.Statement.{statement}
 use Rattle.recordwriter.proofs.put.put_terminator.Tie as tie
 
@@ -18,7 +19,7 @@ add-put-operand : tie.Need-add-put-operand
 add-put-operand c = search needs
 
 put-operand-requires : tie.Need-put-operand-requires
-put-operand-requires c κs = omega (arith, return-length (c .before .before .before .before .before .before .t .given .1))
+put-operand-requires c κs = search needs
 
 enum-known-t-2 : tie.Need-enum-known-t-2
 enum-known-t-2 c = search needs
@@ -42,7 +43,7 @@ add-put-operand-2 : tie.Need-add-put-operand-2
 add-put-operand-2 c = search needs
 
 put-operand-requires-2 : tie.Need-put-operand-requires-2
-put-operand-requires-2 c κs = omega (arith, branch-length (c .before .before .before .before .before .before .t3 .given .1))
+put-operand-requires-2 c κs = search needs
 
 add-put-u32-2 : tie.Need-add-put-u32-2
 add-put-u32-2 c = search needs

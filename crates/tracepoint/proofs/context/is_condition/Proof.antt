@@ -5,7 +5,8 @@ use Prim.Native.Nat.{_≤_, _-_}
 use native.Mathlib.Omega.{arith}
 use native.Mathlib.Numerals.{add-one}
 use lib.ListN.{length, drop}
-use Rattle.tracepoint.specs.Inner.{marked, conditionFrom}
+use Rattle.jumps.specs.Landed.{marked}
+use Rattle.tracepoint.specs.Inner.{conditionFrom}
 use Rattle.tracepoint.proofs.Marks.{condition-here, condition-further, condition-none}
 use Rattle.tracepoint.proofs.context.is_condition.Statement.{statement}
 use Rattle.tracepoint.proofs.context.is_condition.Tie as tie

@@ -5,7 +5,8 @@ use native.Mathlib.Omega.{arith}
 use lib.ListN.{length, length-set}
 use Rattle.unitfile.specs.Unit.{firstBlock}
 use Rattle.unitfile.proofs.Run.{later}
-use Rattle.tracepoint.specs.Inner.{marked, contextOf}
+use Rattle.jumps.specs.Landed.{marked}
+use Rattle.tracepoint.specs.Inner.{contextOf}
 use Rattle.tracepoint.proofs.Measuring.{Measuring, start, has-room, fits, on-record, on-refusal, at-end}
 use borrow.Author.Needs.{needs}
 use Rattle.tracepoint.proofs.measure.measure.Statement.{statement}

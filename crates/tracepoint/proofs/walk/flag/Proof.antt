@@ -2,7 +2,7 @@
 use mathlib.Core.Path.{refl}
 use lib.ListN.{List·getD-eq-default}
 use native.Mathlib.Omega.{arith}
-use Rattle.tracepoint.specs.Inner.{marked}
+use Rattle.jumps.specs.Landed.{marked}
 use borrow.Author.Needs.{needs}
 use Rattle.tracepoint.proofs.walk.flag.Statement.{statement}
 use Rattle.tracepoint.proofs.walk.flag.Tie as tie

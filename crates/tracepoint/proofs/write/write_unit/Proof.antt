@@ -11,7 +11,8 @@ use Rattle.unitfile.proofs.Run.{later}
 use Rattle.survey.specs.Surveyed.{blocksOf}
 use Rattle.layout.specs.Layout.{ops}
 use Rattle.layout.specs.Code.{insns, codeBytes, relocations}
-use Rattle.tracepoint.specs.Inner.{marked, contextOf}
+use Rattle.jumps.specs.Landed.{marked}
+use Rattle.tracepoint.specs.Inner.{contextOf}
 use Rattle.tracepoint.proofs.Flat.{flatOps}
 use Rattle.tracepoint.proofs.Steps.{rest}
 use Rattle.tracepoint.proofs.Writing.{Writing, startsBy, first-room, start, block-room, room-both, written, on-record, code-done, relocs-done, code-whole, relocs-whole}

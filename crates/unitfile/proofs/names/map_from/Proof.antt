@@ -26,7 +26,7 @@ enum-told : tie.Need-enum-told Inv-loop μ-loop
 enum-told c = search needs
 
 returns : tie.Need-returns Inv-loop μ-loop
-returns c = (c .enum-told .given .1 ∙ sym (from-stop _ _ _ _ (sym (c .before .before .map-at .ensures .0) ∙ c .enum-told .given .1)) ∙ c .before .before .before .before .loop .inv, c .before .before .map-at .ensures .1)
+returns c = c .enum-told .given .1 ∙ sym (from-stop _ _ _ _ (sym (c .before .before .map-at .ensures .0) ∙ c .enum-told .given .1)) ∙ c .before .before .before .before .loop .inv
 
 sub-left : tie.Need-sub-left Inv-loop μ-loop
 sub-left c = search needs
@@ -42,7 +42,7 @@ map-at-requires-2 c κs = search needs
 
 returns-2 : tie.Need-returns-2 Inv-loop μ-loop
 unfolding mapFrom
-returns-2 c = let z : c .before .before .loop .left ≡ 0 = omega arith in (c .map-at2 .ensures .0 ∙ sym (ap (mapFrom _ (c .before .before .loop .at)) z) ∙ c .before .before .loop .inv, c .map-at2 .ensures .1)
+returns-2 c = let z : c .before .before .loop .left ≡ 0 = omega arith in c .map-at2 .ensures .0 ∙ sym (ap (mapFrom _ (c .before .before .loop .at)) z) ∙ c .before .before .loop .inv
 
 pub map-from-spec : {M : Type 1} → statement M
 map-from-spec =

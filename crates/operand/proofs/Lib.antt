@@ -1,0 +1,3 @@
+pub mod OperandList
+pub mod Pieces
+pub mod OperandBytes

@@ -1,0 +1,87 @@
+-- One answer only: the promise of each public function decides, on every input, its answer and what it leaves in each lent buffer.
+use mathlib.Core.Path.{_≡_}
+use denote.Ref.{now}
+use Rattle.wire.proofs as wire
+use Rattle.ir.proofs as ir
+use Rattle.insn.proofs as insn
+use Rattle.record.proofs as reader
+use Rattle.recordwriter.proofs as recordwriter
+use Rattle.unitfile.proofs as unitfile
+use Rattle.frame.proofs as frame
+use Rattle.sort.proofs as sort
+use Rattle.flow.proofs as flow
+use Rattle.survey.proofs as survey
+use Rattle.lower.proofs as lower
+use Rattle.tracepoint.proofs as tracepoint
+use Rattle.shape.proofs as shape
+use Rattle.paths.proofs as paths
+use Rattle.screen.proofs as screen
+
+-- the contract P, of the arguments a, the answer and what was lent as it is at exit, decides what o takes of the latter two: outcomes that meet it agree in that. κ names lifetimes
+abbrev pub Decides : {K : Type 0} {A R S O : K → Type 0} → ((κ : K) → A κ → R κ → S κ → Type 0) → ((κ : K) → R κ → S κ → O κ) → Type 0
+Decides {K} {A} {R} {S} P o = (κ : K) (a : A κ) (x y : R κ) (s t : S κ) → P κ a x s → P κ a y t → o κ x s ≡ o κ y t
+
+abbrev pub DecidesAnswer : {K : Type 0} {A R S : K → Type 0} → ((κ : K) → A κ → R κ → S κ → Type 0) → Type 0
+DecidesAnswer P = Decides P (λ κ answer lent. answer)
+
+infixl 4 _and_
+abbrev pub _and_ : {A B : Type 0} → A → B → A × B
+a and b = (a, b)
+
+-- every function that a crate of the library lets others call, but for `worklist::mark` and `worklist::take`; Reads.Post is its contract, as its source has it
+pub record OneAnswer : Type 0 where
+  pub wire-get-u8 : DecidesAnswer wire.get_u8.Reads.Post
+  pub wire-get-u16 : DecidesAnswer wire.get_u16.Reads.Post
+  pub wire-get-u32 : DecidesAnswer wire.get_u32.Reads.Post
+  pub wire-get-u64 : DecidesAnswer wire.get_u64.Reads.Post
+  pub wire-get-i16 : DecidesAnswer wire.get_i16.Reads.Post
+  pub wire-get-i32 : DecidesAnswer wire.get_i32.Reads.Post
+  pub wire-get-i64 : DecidesAnswer wire.get_i64.Reads.Post
+  pub wire-put-u8 : Decides wire.put_u8.Reads.Post (λ κ r (b, _). now b)
+  pub wire-put-u16 : Decides wire.put_u16.Reads.Post (λ κ r (b, _). now b)
+  pub wire-put-u32 : Decides wire.put_u32.Reads.Post (λ κ r (b, _). now b)
+  pub wire-put-u64 : Decides wire.put_u64.Reads.Post (λ κ r (b, _). now b)
+  pub wire-put-i16 : Decides wire.put_i16.Reads.Post (λ κ r (b, _). now b)
+  pub wire-put-i32 : Decides wire.put_i32.Reads.Post (λ κ r (b, _). now b)
+  pub wire-put-i64 : Decides wire.put_i64.Reads.Post (λ κ r (b, _). now b)
+  pub wire-byte-offset : DecidesAnswer wire.number.byte_offset.Reads.Post
+  pub ir-count : DecidesAnswer ir.operands.count.Reads.Post
+  pub ir-push : DecidesAnswer ir.operands.push.Reads.Post
+  pub ir-first : DecidesAnswer ir.operands.first.Reads.Post
+  pub ir-rest : DecidesAnswer ir.operands.rest.Reads.Post
+  pub insn-to-le-bytes : DecidesAnswer insn.Insn.to_le_bytes.Reads.Post
+  pub insn-insn-at : DecidesAnswer insn.insn_at.Reads.Post
+  pub insn-put-insn : Decides insn.put_insn.Reads.Post (λ κ r (b, _). now b)
+  pub insn-decode : DecidesAnswer insn.decode.Reads.Post
+  pub insn-encode : Decides insn.encode.Reads.Post (λ κ r (_, (b, _)). r and now b)
+  pub insn-alu64-imm : DecidesAnswer insn.alu64_imm.Reads.Post
+  pub insn-alu64-reg : DecidesAnswer insn.alu64_reg.Reads.Post
+  pub insn-ldx-mem : DecidesAnswer insn.ldx_mem.Reads.Post
+  pub insn-stx-mem : DecidesAnswer insn.stx_mem.Reads.Post
+  pub insn-form-of : DecidesAnswer insn.form.form_of.Reads.Post
+  pub record-refusal : DecidesAnswer reader.refusal.Reads.Post
+  pub record-read-record : DecidesAnswer reader.read_record.Reads.Post
+  pub record-head-ok : DecidesAnswer reader.payload.head_ok.Reads.Post
+  pub recordwriter-refusal : DecidesAnswer recordwriter.refusal.Reads.Post
+  pub recordwriter-write-record : Decides recordwriter.write_record.Reads.Post (λ κ r (_, (_, (_, (buffer, _)))). r and now buffer)
+  pub unitfile-next-record : DecidesAnswer unitfile.next_record.Reads.Post
+  pub unitfile-read-unit : DecidesAnswer unitfile.read_unit.Reads.Post
+  pub unitfile-map-name : Decides unitfile.map_name.Reads.Post (λ κ r s. now r)
+  pub unitfile-map-named : DecidesAnswer unitfile.map_named.Reads.Post
+  pub frame-cell-of : DecidesAnswer frame.cell_of.Reads.Post
+  pub frame-scratch : DecidesAnswer frame.scratch.Reads.Post
+  pub frame-insert : Decides frame.insert.Reads.Post (λ κ r (variables, _). r and now variables)
+  pub sort-sort : Decides sort.sort.Reads.Post (λ κ r (keys, _). now keys)
+  pub flow-link : Decides flow.link.Reads.Post (λ κ r (_, (_, (_, (targets, (emitted, _))))). now targets and now emitted)
+  pub survey-survey-unit : Decides survey.survey_unit.Reads.Post (λ κ r (_, (variables, (ids, (endings, _)))). r and now variables and now ids and now endings)
+  pub lower-lower-instruction : DecidesAnswer lower.lower_instruction.Reads.Post
+  pub lower-scratch-after : DecidesAnswer lower.scratch_after.Reads.Post
+  pub lower-lower-terminator : DecidesAnswer lower.lower_terminator.Reads.Post
+  pub tracepoint-refusal : DecidesAnswer tracepoint.refusal.Reads.Post
+  pub tracepoint-compile-tracepoint : Decides tracepoint.compile_tracepoint.Reads.Post (λ κ r (_, (code, (relocs, _))). r and now code and now relocs)
+  pub shape-length-ok : DecidesAnswer shape.length_ok.Reads.Post
+  pub shape-judge : DecidesAnswer shape.judge.Reads.Post
+  pub paths-analyse : Decides paths.analyse.Reads.Post (λ κ r (_, (table, _)). r and now table)
+  pub paths-read-mask : DecidesAnswer paths.read_mask.Reads.Post
+  pub screen-refusal : DecidesAnswer screen.refusal.Reads.Post
+  pub screen-screen : Decides screen.screen.Reads.Post (λ κ r (_, (_, (table, _))). r and now table)

@@ -1,0 +1,3 @@
+pub mod OneAnswer
+mod Counts
+mod Signed

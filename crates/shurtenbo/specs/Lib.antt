@@ -1,0 +1,4 @@
+pub mod Answer
+pub mod Code
+pub mod Units
+pub mod Insns

@@ -1,0 +1,193 @@
+-- Where the name of a map lies, by its number: after the records of the maps before it.
+use mathlib.Core.Path.{_≡_, refl, ap, _∙_, sym}
+use mathlib.Core.Bool.{Bool, true, false}
+use mathlib.Core.List.{List, [], _∷_, _++_}
+use Prim.Native.Nat.{ℕ, zero, suc, _+_, _<_, _≤_}
+use native.Mathlib.Nat.{add-zero, zero-add}
+use native.Mathlib.Omega.{arith}
+use borrow.Author.Tests.{lt-ltb, le-ltb, ltb-true, ltb-false}
+use lib.Dec.{leb, ltb}
+use lib.ListN.{length, getD, take, drop, length-append, length-drop, List·getD-eq-default}
+use lib.Seq.{take-all, take-take, take-append-seam, length-take-le}
+use Rattle.wire.specs.Pick.{pick}
+use Rattle.record.specs.Frame.{nextAt}
+use Rattle.record.specs.declared.Head.{Head}
+use Rattle.record.specs.declared.Record.{Record}
+use Rattle.record.specs.declared.Record.the-variants as R
+use Rattle.record.specs.declared.Due.the-variants as Du
+use Rattle.record.specs.declared.Fault.{Fault}
+use Rattle.record.specs.declared.Read.{Read}
+use Rattle.record.specs.declared.Read.the-variants as Re
+use Rattle.record.proofs.RecordLaws.{record-taken}
+use Rattle.unitfile.specs.Names.{part, named, namesAt, firstRecord}
+use Rattle.unitfile.specs.Inner.{headOf, onMapAt, mapFrom}
+use Rattle.unitfile.specs.Unit.{Parsed, parsed, refused, parse, readUnit}
+use Rattle.unitfile.specs.MapName.{nameOf, namedOf, mapBytes, placeOf}
+use Rattle.unitfile.specs.declared.Found.{Found}
+use Rattle.unitfile.specs.declared.MapPlace.{MapPlace}
+use Rattle.unitfile.specs.declared.MapPlace.the-variants as P
+use Rattle.unitfile.specs.declared.Named.{Named}
+use Rattle.unitfile.specs.declared.Named.the-variants as N
+use Rattle.unitfile.specs.declared.ReadUnit.{ReadUnit}
+use Rattle.unitfile.specs.declared.ReadUnit.the-variants as U
+use Rattle.unitfile.specs.declared.names.MapAt.the-variants as M
+use Rattle.unitfile.specs.declared.names.HeadAt.the-variants as H
+use Rattle.unitfile.proofs.Choice.{pick-ind}
+use Rattle.unitfile.proofs.MapLaws.{is-map, read-one}
+use Rattle.unitfile.proofs.Whole.{Whole, whole, refused-whole, names-all, name-is, name-place, name-from}
+
+-- ---- the maps before it
+
+map-bytes-more : (l : List (List ℕ)) (name : List ℕ) → mapBytes (l ++ (name ∷ [])) ≡ mapBytes l + (4 + length name)
+unfolding mapBytes
+map-bytes-more [] name = omega arith
+map-bytes-more (n ∷ l) name = let r = map-bytes-more l name in omega arith
+
+-- a name that lies in the bytes has its length
+part-length : (start len : ℕ) (b : List ℕ) → start + len ≤ length b → length (part start len b) ≡ len
+part-length start len b h = length-take-le len (drop start b) (simp length-drop (omega arith))
+
+-- the names before come first
+names-front : (b : List ℕ) (n : ℕ) (names : List (List ℕ)) (at : ℕ) (all : List (List ℕ)) (end : ℕ) → namesAt b names at n ≡ named all end → take (length names) all ≡ names
+unfolding namesAt
+names-front b zero names at all end e =
+    let z : names ≡ all = cc in
+    ap (take (length names)) (sym z) ∙ take-all (length names) names (omega arith)
+names-front b (suc n) names at all end e =
+    let r = read-one b names at n all end e in
+    let name = part (r .start) (r .len) b in
+    let m = length-append names (name ∷ []) in
+    sym (take-take (length names) (length (names ++ (name ∷ []))) all (omega arith))
+    ∙ ap (take (length names)) (names-front b n (names ++ (name ∷ [])) (r .next) all end (r .rest))
+    ∙ take-append-seam names (name ∷ [])
+
+place-from : (b : List ℕ) (n k : ℕ) (names : List (List ℕ)) (at : ℕ) (all : List (List ℕ)) (end : ℕ) → namesAt b names at n ≡ named all end → k < n → (start len next : ℕ) → mapFrom b at k ≡ M.Is start len next → start + mapBytes names ≡ at + mapBytes (take (length names + k) all) + 4
+unfolding mapFrom onMapAt
+place-from b zero k names at all end e h start len next f = absurd (omega arith)
+place-from b (suc n) zero names at all end e h start len next f =
+    let m = is-map b at start len next f in
+    let front = names-front b (suc n) names at all end e in
+    rw (add-zero, front) (omega (arith, m .begins))
+place-from b (suc n) (suc k) names at all end e h start len next f =
+    let r = read-one b names at n all end e in
+    let name = part (r .start) (r .len) b in
+    let m = is-map b at (r .start) (r .len) (r .next) (r .map) in
+    let i = place-from b n k (names ++ (name ∷ [])) (r .next) all end (r .rest) (omega arith) start len next (rw (r .map) at f) in
+    let l = length-append names (name ∷ []) in
+    let j : length (names ++ (name ∷ [])) + k ≡ length names + suc k = omega arith in
+    let bytes = map-bytes-more names name in
+    let size = part-length (r .start) (r .len) b (omega (arith, m .ends, m .within)) in
+    omega (arith, rw j at i, m .begins, m .ends)
+
+-- ---- as the code finds it
+
+first-by : (b : List ℕ) (x : Read) → firstRecord b ≡ x → (h : Head) (first : ℕ) → headOf x ≡ H.Is h first → firstRecord b ≡ Re.Record (R.Head h) first
+unfolding headOf
+first-by b (Re.Record (R.Head g) next) p h first e =
+    let q : g ≡ h = cc in
+    let r : next ≡ first = cc in
+    cc
+first-by b (Re.Record (R.Map start len) next) p h first e = let z : _≡_ {A = ℕ} 0 1 = cc in absurd (omega arith)
+first-by b (Re.Record (R.Block i) next) p h first e = let z : _≡_ {A = ℕ} 0 1 = cc in absurd (omega arith)
+first-by b (Re.Record (R.Instruction i) next) p h first e = let z : _≡_ {A = ℕ} 0 1 = cc in absurd (omega arith)
+first-by b (Re.Record (R.Terminator i) next) p h first e = let z : _≡_ {A = ℕ} 0 1 = cc in absurd (omega arith)
+first-by b (Re.Refused f) p h first e = let z : _≡_ {A = ℕ} 0 1 = cc in absurd (omega arith)
+
+-- the byte after the head
+after-head : (b : List ℕ) (h : Head) (first : ℕ) → headOf (firstRecord b) ≡ H.Is h first → first ≡ nextAt b 0
+unfolding firstRecord
+after-head b h first e =
+    pick-ind (λ (x : Read). x ≡ Re.Record (R.Head h) first → first ≡ nextAt b 0) (leb (length b) 262144) _ _
+    (λ t p. record-taken b 0 Du.Head 0 (R.Head h) first p .ends)
+    (λ t p. let z : _≡_ {A = ℕ} 0 1 = cc in absurd (omega arith))
+    (first-by b (firstRecord b) refl h first e)
+
+module _ (b : List ℕ) (found : Found) (w : Whole b found) where
+  pub place-at : (h : Head) (first k : ℕ) → headOf (firstRecord b) ≡ H.Is h first → k < found .head .maps → (start len next : ℕ) → mapFrom b first k ≡ M.Is start len next → placeOf b (parse b) k ≡ P.At start len
+  unfolding placeOf mapBytes
+  place-at h first k e l start len next f =
+      let same = sym (w .head) ∙ e in
+      let z : w .first ≡ first = cc in
+      let n = name-from b found w h first k e l in
+      let g = sym (n .found) ∙ f in
+      let p : n .start ≡ start = cc in
+      let q : n .len ≡ len = cc in
+      let m = is-map b (n .at) (n .start) (n .len) (n .next) (n .map) in
+      let size = part-length (n .start) (n .len) b (omega (arith, m .ends, m .within)) in
+      let name = ap length (sym (name-is b found w k) ∙ n .name-is) in
+      let begins = place-from b (found .head .maps) k [] (w .first) (w .names) (found .body) (w .maps) l start len next (rw z f) in
+      let count = names-all b found w in
+      let start-is : nextAt b 0 + mapBytes (take k (w .names)) + 4 ≡ start = omega (arith, rw zero-add at begins, after-head b h first e) in
+      let len-is : length (getD (w .names) k []) ≡ len = omega arith in
+      rw (w .unit, lt-ltb k (length (w .names)) (omega arith), start-is, len-is)
+
+  pub place-none : (k : ℕ) → found .head .maps ≤ k → placeOf b (parse b) k ≡ P.NoSuchMap
+  unfolding placeOf
+  place-none k h =
+      let count = names-all b found w in
+      rw (w .unit, le-ltb k (length (w .names)) (omega arith))
+
+pub place-refused : (b : List ℕ) (k : ℕ) (f : Fault) → readUnit b ≡ U.Refused f → placeOf b (parse b) k ≡ P.Refused f
+unfolding placeOf
+place-refused b k f e = rw (refused-whole b f e)
+
+-- ---- what a place says of the name
+
+-- the name lies there, inside the bytes
+pub record Lying (b name : List ℕ) (start len : ℕ) : Type 0 where
+  pub name-is : name ≡ part start len b
+  pub within : start + len ≤ length b
+
+lying-by : (b : List ℕ) (x : ReadUnit) → readUnit b ≡ x → (k start len : ℕ) → placeOf b (parse b) k ≡ P.At start len → Lying b (nameOf (parse b) k) start len
+lying-by b (U.Unit found) r k start len e = go (ltb k (found .head .maps)) refl
+  where
+    go : (t : Bool) → ltb k (found .head .maps) ≡ t → Lying b (nameOf (parse b) k) start len
+    go true t =
+        let w = whole b found r in
+        let l = ltb-true k (found .head .maps) t in
+        let n = name-place b found w k l in
+        let g = sym (place-at b found w (found .head) (w .first) k (w .head) l (n .start) (n .len) (n .next) (n .found)) ∙ e in
+        let p : n .start ≡ start = cc in
+        let q : n .len ≡ len = cc in
+        let m = is-map b (n .at) (n .start) (n .len) (n .next) (n .map) in
+        record { name-is = rw (← p, ← q) (n .name-is); within = omega (arith, m .ends, m .within) }
+    go false t =
+        let g = sym (place-none b found (whole b found r) k (ltb-false k (found .head .maps) t)) ∙ e in
+        let z : _≡_ {A = ℕ} 0 1 = cc in absurd (omega arith)
+lying-by b (U.Refused f) r k start len e =
+    let g = sym (place-refused b k f r) ∙ e in
+    let z : _≡_ {A = ℕ} 0 1 = cc in absurd (omega arith)
+
+pub lying : (b : List ℕ) (k start len : ℕ) → placeOf b (parse b) k ≡ P.At start len → Lying b (nameOf (parse b) k) start len
+lying b = lying-by b (readUnit b) refl
+
+-- whether there is a name
+abbrev pub namedAt : MapPlace → Named
+namedAt (P.At start len) = N.Named
+namedAt P.NoSuchMap = N.NoSuchMap
+namedAt (P.Refused f) = N.Refused f
+
+pub named-at : (b : List ℕ) (p : Parsed) (k : ℕ) → namedOf p k ≡ namedAt (placeOf b p k)
+unfolding namedOf placeOf
+named-at b (parsed u) k = go (ltb k (length (u .names)))
+  where
+    go : (t : Bool) → pick t N.Named N.NoSuchMap ≡ namedAt (pick t (P.At (nextAt b 0 + mapBytes (take k (u .names)) + 4) (length (getD (u .names) k []))) P.NoSuchMap)
+    go true = refl
+    go false = refl
+named-at b (refused f) k = refl
+
+pub nothing-named : (p : Parsed) (k : ℕ) → namedOf p k ≡ N.NoSuchMap → nameOf p k ≡ []
+unfolding namedOf nameOf
+nothing-named (parsed u) k =
+    pick-ind (λ (x : Named). x ≡ N.NoSuchMap → getD (u .names) k [] ≡ []) (ltb k (length (u .names))) _ _
+    (λ t e. let z : _≡_ {A = ℕ} 0 1 = cc in absurd (omega arith))
+    (λ t e. List·getD-eq-default (u .names) [] {n = k} (ltb-false k (length (u .names)) t))
+nothing-named (refused f) k = λ e. refl
+
+pub refused-named : (p : Parsed) (k : ℕ) (f : Fault) → namedOf p k ≡ N.Refused f → nameOf p k ≡ []
+unfolding namedOf nameOf
+refused-named (parsed u) k f =
+    pick-ind (λ (x : Named). x ≡ N.Refused f → getD (u .names) k [] ≡ []) (ltb k (length (u .names))) _ _
+    (λ t e. let z : _≡_ {A = ℕ} 0 1 = cc in absurd (omega arith))
+    (λ t e. let z : _≡_ {A = ℕ} 0 1 = cc in absurd (omega arith))
+refused-named (refused g) k f = λ e. refl
