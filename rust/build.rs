@@ -6,10 +6,7 @@ use std::path::{Path, PathBuf};
 use std::process::Command;
 
 fn built(root: &Path) -> PathBuf {
-    let done = Command::new("rt")
-        .args(["staticlib", "shurtenbo"])
-        .current_dir(root)
-        .status();
+    let done = Command::new("rt").args(["staticlib", "shurtenbo"]).current_dir(root).status();
     match done {
         Ok(status) if status.success() => root.join("target/staticlib"),
         Ok(status) => panic!("rt staticlib shurtenbo: {status}"),

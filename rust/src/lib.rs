@@ -47,11 +47,7 @@ pub struct Insn {
 fn told(answer: raw::Answer) -> Result<(u64, u64), Refusal> {
     match answer {
         [0, first, second] => Ok((first, second)),
-        [number, place, value] => Err(Refusal {
-            number,
-            place,
-            value: value as i64,
-        }),
+        [number, place, value] => Err(Refusal { number, place, value: value as i64 }),
     }
 }
 
@@ -102,10 +98,7 @@ pub fn read_unit(unit: &[u8]) -> Result<Head, Refusal> {
     let mut answer = [0; 3];
     // SAFETY: as in `compile`.
     unsafe { raw::shurtenbo_read_unit(unit.as_ptr(), unit.len(), &mut answer) };
-    told(answer).map(|(maps, blocks)| Head {
-        maps: maps as u16,
-        blocks: blocks as u32,
-    })
+    told(answer).map(|(maps, blocks)| Head { maps: maps as u16, blocks: blocks as u32 })
 }
 
 /// The bytes of a map's name inside the unit, or `None` for no such map.

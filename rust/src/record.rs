@@ -48,11 +48,7 @@ pub struct Instruction {
 pub enum Terminator {
     Return(Operand),
     Jump(u32),
-    Branch {
-        condition: Operand,
-        true_block: u32,
-        false_block: u32,
-    },
+    Branch { condition: Operand, true_block: u32, false_block: u32 },
 }
 
 /// A map's record says where its name lies: in the unit that was read, or in the bytes given to the writer.
@@ -199,7 +195,12 @@ fn record_of(f: &[u64; 24]) -> Record {
 // ---- calls
 
 /// The record that is due at a byte, in a unit of so many maps, and the byte after it.
-pub fn read_record(unit: &[u8], at: usize, due: Due, maps: u16) -> Result<(Record, usize), Refusal> {
+pub fn read_record(
+    unit: &[u8],
+    at: usize,
+    due: Due,
+    maps: u16,
+) -> Result<(Record, usize), Refusal> {
     let mut fields = [0; 24];
     let mut answer = [0; 3];
     // SAFETY: the pointer comes with the length of the slice that it was taken from, and the library
@@ -220,7 +221,12 @@ pub fn read_record(unit: &[u8], at: usize, due: Due, maps: u16) -> Result<(Recor
 
 /// Writes a record at the buffer's front, in a unit of so many maps; a map's name lies in `names`.
 /// Answers the bytes written; a refused call changes nothing.
-pub fn write_record(r: &Record, names: &[u8], maps: u16, buffer: &mut [u8]) -> Result<usize, Refusal> {
+pub fn write_record(
+    r: &Record,
+    names: &[u8],
+    maps: u16,
+    buffer: &mut [u8],
+) -> Result<usize, Refusal> {
     let fields = fields_of(r);
     let mut answer = [0; 3];
     // SAFETY: as in `read_record`.

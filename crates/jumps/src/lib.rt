@@ -100,10 +100,11 @@ fn land_block(
         return Landed::Lands;
     }
     let first = 2 * (k as usize);
+    let second = first + 1;
     if count == 1 {
         return land_by(k, 1, first, emitted, edges, endings, named, numbers);
     }
-    match land_by(k, 1, first + 1, emitted, edges, endings, named, numbers) {
+    match land_by(k, 1, second, emitted, edges, endings, named, numbers) {
         Landed::Lands => land_by(k, 2, first, emitted, edges, endings, named, numbers),
         Landed::NoTarget(at, id) => Landed::NoTarget(at, id),
         Landed::TooFar(at, id) => Landed::TooFar(at, id),

@@ -4,6 +4,8 @@ use denote.Ref.{now}
 use Rattle.wire.proofs as wire
 use Rattle.ir.proofs as ir
 use Rattle.insn.proofs as insn
+use Rattle.opcode.proofs as opcode
+use Rattle.operand.proofs as operand
 use Rattle.record.proofs as reader
 use Rattle.recordwriter.proofs as recordwriter
 use Rattle.unitfile.proofs as unitfile
@@ -12,6 +14,7 @@ use Rattle.sort.proofs as sort
 use Rattle.flow.proofs as flow
 use Rattle.survey.proofs as survey
 use Rattle.lower.proofs as lower
+use Rattle.jumps.proofs as jumps
 use Rattle.tracepoint.proofs as tracepoint
 use Rattle.shape.proofs as shape
 use Rattle.paths.proofs as paths
@@ -28,7 +31,7 @@ infixl 4 _and_
 abbrev pub _and_ : {A B : Type 0} → A → B → A × B
 a and b = (a, b)
 
--- every function that a crate of the library lets others call, but for `worklist::mark` and `worklist::take`; Reads.Post is its contract, as its source has it
+-- every function that a crate below this one lets others call, but for `worklist::mark` and `worklist::take`; Reads.Post is its contract, as its source has it
 pub record OneAnswer : Type 0 where
   pub wire-get-u8 : DecidesAnswer wire.get_u8.Reads.Post
   pub wire-get-u16 : DecidesAnswer wire.get_u16.Reads.Post
@@ -59,6 +62,13 @@ pub record OneAnswer : Type 0 where
   pub insn-ldx-mem : DecidesAnswer insn.ldx_mem.Reads.Post
   pub insn-stx-mem : DecidesAnswer insn.stx_mem.Reads.Post
   pub insn-form-of : DecidesAnswer insn.form.form_of.Reads.Post
+  pub opcode-small-of : DecidesAnswer opcode.small_of.Reads.Post
+  pub opcode-opcode-of : DecidesAnswer opcode.opcode_of.Reads.Post
+  pub opcode-map-ok : DecidesAnswer opcode.map_ok.Reads.Post
+  pub operand-operand-at : DecidesAnswer operand.operand_at.Reads.Post
+  pub operand-operands-at : DecidesAnswer operand.operands_at.Reads.Post
+  pub operand-put-operand : Decides operand.put_operand.Reads.Post (λ κ r (b, _). now b)
+  pub operand-put-operands : Decides operand.put_operands.Reads.Post (λ κ r (b, _). now b)
   pub record-refusal : DecidesAnswer reader.refusal.Reads.Post
   pub record-read-record : DecidesAnswer reader.read_record.Reads.Post
   pub record-head-ok : DecidesAnswer reader.payload.head_ok.Reads.Post
@@ -77,6 +87,8 @@ pub record OneAnswer : Type 0 where
   pub lower-lower-instruction : DecidesAnswer lower.lower_instruction.Reads.Post
   pub lower-scratch-after : DecidesAnswer lower.scratch_after.Reads.Post
   pub lower-lower-terminator : DecidesAnswer lower.lower_terminator.Reads.Post
+  pub jumps-distance : DecidesAnswer jumps.distance.Reads.Post
+  pub jumps-check-jumps : DecidesAnswer jumps.check_jumps.Reads.Post
   pub tracepoint-refusal : DecidesAnswer tracepoint.refusal.Reads.Post
   pub tracepoint-compile-tracepoint : Decides tracepoint.compile_tracepoint.Reads.Post (λ κ r (_, (code, (relocs, _))). r and now code and now relocs)
   pub shape-length-ok : DecidesAnswer shape.length_ok.Reads.Post

@@ -4,4 +4,5 @@
 mod answer;
 pub mod code;
 pub mod insns;
+pub mod records;
 pub mod units;

@@ -14,6 +14,17 @@ extern "C" {
         relocs_len: usize,
         answer: *mut [u64; 3],
     );
+
+    /// `answer` holds the refusal's number, place and value, or 0 first for yes.
+    fn shurtenbo_screen(
+        code: *const u8,
+        code_len: usize,
+        relocs: *const u32,
+        relocs_len: usize,
+        table: *mut u16,
+        table_len: usize,
+        answer: *mut [u64; 3],
+    );
 }
 
 pub struct Shurtenbo;
@@ -41,4 +52,22 @@ impl BackEnd for Shurtenbo {
         }
         answer.map(|n| n as i64)
     }
+}
+
+/// The screen's three numbers.
+pub fn screen(code: &[u8], relocs: &[u32], table: &mut [u16]) -> [i64; 3] {
+    let mut answer = [u64::MAX - 1; 3];
+    // SAFETY: as in `compile`.
+    unsafe {
+        shurtenbo_screen(
+            code.as_ptr(),
+            code.len(),
+            relocs.as_ptr(),
+            relocs.len(),
+            table.as_mut_ptr(),
+            table.len(),
+            &mut answer,
+        );
+    }
+    answer.map(|n| n as i64)
 }

@@ -15,15 +15,15 @@ returns c = rw (← c .before .get-u8 .ensures, eq-eqb _ 0 (c .if1 .taken))
 mul-first : tie.Need-mul-first
 mul-first c = search needs
 
+add-second : tie.Need-add-second
+add-second c = search needs
+
 land-by-requires : tie.Need-land-by-requires
 land-by-requires c κs = search needs
 
 returns-2 : tie.Need-returns-2
 unfolding landedAt
 returns-2 c = rw (← c .before .before .before .get-u8 .ensures, ne-eqb _ 0 (c .before .before .if1 .left), eq-eqb _ 1 (c .before .if2 .taken)) (c .land-by .ensures)
-
-add-land-by : tie.Need-add-land-by
-add-land-by c = search needs
 
 land-by-requires-2 : tie.Need-land-by-requires-2
 land-by-requires-2 c κs = search needs
@@ -59,9 +59,9 @@ land-block-spec =
     get-u8-requires
     returns
     mul-first
+    add-second
     land-by-requires
     returns-2
-    add-land-by
     land-by-requires-2
     enum-told
     land-by-requires-3
