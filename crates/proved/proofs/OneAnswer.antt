@@ -8,6 +8,7 @@ use Rattle.lower.specs.declared.Ending.{Ending}
 use Rattle.lower.specs.declared.Ending.the-variants.{Return, Jump, Branch, Refused}
 use Rattle.paths.proofs.Unique as paths
 use Rattle.screen.proofs.OneAnswer as screen
+use Rattle.shurtenbo.proofs.OneAnswer as shurtenbo
 use Rattle.proved.specs.OneAnswer.{_and_, OneAnswer}
 
 -- each value of a terminator is of one list only
@@ -68,6 +69,10 @@ one-answer =
       insn-ldx-mem = λ κ a x y s t p q. cc;
       insn-stx-mem = λ κ a x y s t p q. cc;
       insn-form-of = λ κ a x y s t p q. cc;
+      text-put-counts = λ κ a x y s t p q. cc;
+      text-put-slot = λ κ a x y s t p q. cc;
+      text-put-reloc = λ κ a x y s t p q. cc;
+      text-put-refused = λ κ a x y s t p q. cc;
       opcode-small-of = λ κ a x y s t p q. cc;
       opcode-opcode-of = λ κ a x y s t p q. cc;
       opcode-map-ok = λ κ a x y s t p q. cc;
@@ -82,6 +87,7 @@ one-answer =
       recordwriter-write-record = λ κ a x y s t p q. cc;
       unitfile-next-record = λ κ a x y s t p q. cc;
       unitfile-read-unit = λ κ a x y s t p q. cc;
+      unitfile-map-place = λ κ a x y s t p q. cc;
       unitfile-map-name = λ κ a x y s t p q. cc;
       unitfile-map-named = λ κ a x y s t p q. cc;
       frame-cell-of = λ κ a x y s t p q. cc;
@@ -103,4 +109,16 @@ one-answer =
       paths-read-mask = λ κ a x y s t p q. cc;
       screen-refusal = λ κ a x y s t p q. cc;
       screen-screen = λ κ a x y s t p q. let E = screen.one-verdict (now (a .0)) (now (a .1 .0)) (now (a .1 .1 .0)) x y (now (s .1 .1 .0)) (now (t .1 .1 .0)) p q in both-same (E .0) (E .1);
+      recordfields-bits64 = λ κ a x y s t p q. cc;
+      recordfields-sign64 = λ κ a x y s t p q. cc;
+      recordfields-fields-of = λ κ a x y s t p q. cc;
+      recordfields-record-from = λ κ a x y s t p q. cc;
+      shurtenbo-compile = λ κ a x y s t p q. cc;
+      shurtenbo-screen = λ κ a x y s t p q. let E = shurtenbo.one-screen (now (a .0)) (now (a .1 .0)) (now (a .1 .1 .0)) (now (s .1 .1 .0)) (now (t .1 .1 .0)) (now (s .1 .1 .1 .0)) (now (t .1 .1 .1 .0)) p q in both-same (E .0) (E .1);
+      shurtenbo-read-unit = λ κ a x y s t p q. cc;
+      shurtenbo-map-name = λ κ a x y s t p q. cc;
+      shurtenbo-decode = λ κ a x y s t p q. cc;
+      shurtenbo-encode = λ κ a x y s t p q. cc;
+      shurtenbo-read-record = λ κ a x y s t p q. cc;
+      shurtenbo-write-record = λ κ a x y s t p q. cc;
     }

@@ -4,6 +4,7 @@ use denote.Ref.{now}
 use Rattle.wire.proofs as wire
 use Rattle.ir.proofs as ir
 use Rattle.insn.proofs as insn
+use Rattle.text.proofs as text
 use Rattle.opcode.proofs as opcode
 use Rattle.operand.proofs as operand
 use Rattle.record.proofs as reader
@@ -19,6 +20,8 @@ use Rattle.tracepoint.proofs as tracepoint
 use Rattle.shape.proofs as shape
 use Rattle.paths.proofs as paths
 use Rattle.screen.proofs as screen
+use Rattle.recordfields.proofs as recordfields
+use Rattle.shurtenbo.proofs as shurtenbo
 
 -- the contract P, of the arguments a, the answer and what was lent as it is at exit, decides what o takes of the latter two: outcomes that meet it agree in that. κ names lifetimes
 abbrev pub Decides : {K : Type 0} {A R S O : K → Type 0} → ((κ : K) → A κ → R κ → S κ → Type 0) → ((κ : K) → R κ → S κ → O κ) → Type 0
@@ -31,7 +34,7 @@ infixl 4 _and_
 abbrev pub _and_ : {A B : Type 0} → A → B → A × B
 a and b = (a, b)
 
--- every function that a crate below this one lets others call, but for `worklist::mark` and `worklist::take`; Reads.Post is its contract, as its source has it
+-- every function that a library crate lets others call, but for `worklist::mark` and `worklist::take`; Reads.Post is its contract, as its source has it
 pub record OneAnswer : Type 0 where
   pub wire-get-u8 : DecidesAnswer wire.get_u8.Reads.Post
   pub wire-get-u16 : DecidesAnswer wire.get_u16.Reads.Post
@@ -62,6 +65,10 @@ pub record OneAnswer : Type 0 where
   pub insn-ldx-mem : DecidesAnswer insn.ldx_mem.Reads.Post
   pub insn-stx-mem : DecidesAnswer insn.stx_mem.Reads.Post
   pub insn-form-of : DecidesAnswer insn.form.form_of.Reads.Post
+  pub text-put-counts : Decides text.put_counts.Reads.Post (λ κ r (out, _). r and now out)
+  pub text-put-slot : Decides text.put_slot.Reads.Post (λ κ r (out, _). r and now out)
+  pub text-put-reloc : Decides text.put_reloc.Reads.Post (λ κ r (out, _). r and now out)
+  pub text-put-refused : Decides text.put_refused.Reads.Post (λ κ r (out, _). r and now out)
   pub opcode-small-of : DecidesAnswer opcode.small_of.Reads.Post
   pub opcode-opcode-of : DecidesAnswer opcode.opcode_of.Reads.Post
   pub opcode-map-ok : DecidesAnswer opcode.map_ok.Reads.Post
@@ -76,6 +83,7 @@ pub record OneAnswer : Type 0 where
   pub recordwriter-write-record : Decides recordwriter.write_record.Reads.Post (λ κ r (_, (_, (_, (buffer, _)))). r and now buffer)
   pub unitfile-next-record : DecidesAnswer unitfile.next_record.Reads.Post
   pub unitfile-read-unit : DecidesAnswer unitfile.read_unit.Reads.Post
+  pub unitfile-map-place : DecidesAnswer unitfile.map_place.Reads.Post
   pub unitfile-map-name : Decides unitfile.map_name.Reads.Post (λ κ r s. now r)
   pub unitfile-map-named : DecidesAnswer unitfile.map_named.Reads.Post
   pub frame-cell-of : DecidesAnswer frame.cell_of.Reads.Post
@@ -97,3 +105,15 @@ pub record OneAnswer : Type 0 where
   pub paths-read-mask : DecidesAnswer paths.read_mask.Reads.Post
   pub screen-refusal : DecidesAnswer screen.refusal.Reads.Post
   pub screen-screen : Decides screen.screen.Reads.Post (λ κ r (_, (_, (table, _))). r and now table)
+  pub recordfields-bits64 : DecidesAnswer recordfields.word.bits64.Reads.Post
+  pub recordfields-sign64 : DecidesAnswer recordfields.word.sign64.Reads.Post
+  pub recordfields-fields-of : DecidesAnswer recordfields.numbers.fields_of.Reads.Post
+  pub recordfields-record-from : DecidesAnswer recordfields.meant.record_from.Reads.Post
+  pub shurtenbo-compile : Decides shurtenbo.units.shurtenbo_compile.Reads.Post (λ κ r (_, (code, (relocs, (answer, _)))). now code and now relocs and now answer)
+  pub shurtenbo-screen : Decides shurtenbo.code.shurtenbo_screen.Reads.Post (λ κ r (_, (_, (table, (answer, _)))). now table and now answer)
+  pub shurtenbo-read-unit : Decides shurtenbo.units.shurtenbo_read_unit.Reads.Post (λ κ r (_, (answer, _)). now answer)
+  pub shurtenbo-map-name : Decides shurtenbo.units.shurtenbo_map_name.Reads.Post (λ κ r (_, (_, (answer, _))). now answer)
+  pub shurtenbo-decode : Decides shurtenbo.insns.shurtenbo_decode.Reads.Post (λ κ r (_, (fields, (answer, _))). now fields and now answer)
+  pub shurtenbo-encode : Decides shurtenbo.insns.shurtenbo_encode.Reads.Post (λ κ r (_, (_, (_, (_, (_, (bytes, (answer, _))))))). now bytes and now answer)
+  pub shurtenbo-read-record : Decides shurtenbo.records.shurtenbo_read_record.Reads.Post (λ κ r (_, (_, (_, (_, (fields, (answer, _)))))). now fields and now answer)
+  pub shurtenbo-write-record : Decides shurtenbo.records.shurtenbo_write_record.Reads.Post (λ κ r (_, (_, (_, (buffer, (answer, _))))). now buffer and now answer)
