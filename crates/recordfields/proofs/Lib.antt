@@ -1,2 +1,3 @@
 mod Bits
 mod Pairs
+pub mod Back
