@@ -107,58 +107,21 @@ distance-target t own =
 
 -- ---- the three endings
 
+-- EXIT comes where R0 is readable, JNE after a load of R0
 pub data Ending : List Op → Type 1 where
-  returns : {i : Insn} → Piece (plain i ∷ []) base (with 0 base) → Ending (plain i ∷ plain exits ∷ [])
+  returns : {i : Insn} {D : Regs} → Piece (plain i ∷ []) base D → D 0 ≡ true → Ending (plain i ∷ plain exits ∷ [])
   jumps : (id : ℕ) → Ending (ja id ∷ [])
   branches : {i : Insn} → Piece (plain i ∷ []) base (with 0 base) → (id other : ℕ) → Ending (plain i ∷ jne id ∷ ja other ∷ [])
 
-data Alone : Lowered → Type 0 where
-  one : (i : Insn) → Alone (becomes (plain i ∷ []))
-  nothing : {r : Reason} → Alone (refused r)
-
-a-constant : (t : Bool) (i : Insn) (r : Reason) → Alone (pick t (becomes (plain i ∷ [])) (refused r))
-a-constant true i r = one i
-a-constant false i r = nothing
-
-a-cell : (v : ℕ) (x : Cell) (g : ℤ → Insn) → Alone (onCell v x (λ z. becomes (plain (g z) ∷ [])))
-unfolding onCell
-a-cell v (At z) g = one (g z)
-a-cell v Missing g = nothing
-
-a-load : (f : Frame) (r : ℕ) (o : Operand) → Alone (load f r o)
-unfolding load constant insn
-a-load f r (Var v) = a-cell v (f .cell v) _
-a-load f r (Immediate z) = a-constant (fits32 z) _ _
-
-pub data Ends : Lowered → Type 1 where
-  some : {l : List Op} → Ending l → Ends (becomes l)
-  none : {r : Reason} → Ends (refused r)
-
-e-return : {x : Lowered} → Moves x base (with 0 base) → Alone x → Ends (x ▸ insn Exit 0 0 (pos 0) (pos 0))
-unfolding _▸_ insn
-e-return (Moves.some p) (one i) = some (returns p)
-e-return Moves.none nothing = none
-
-e-branch : {x : Lowered} → Moves x base (with 0 base) → Alone x → (id other : ℕ) → Ends (x ▸ becomes (jne id ∷ ja other ∷ []))
-unfolding _▸_
-e-branch (Moves.some p) (one i) id other = some (branches p id other)
-e-branch Moves.none nothing id other = none
-
-pub ends : (f : Frame) → Cells f → (t : Terminator) → Ends (terminator f t)
-unfolding terminator base
-ends f c (Return o) = e-return (m-load f c 0 o (omega arith) refl) (a-load f 0 o)
-ends f c (Jump id) = some (jumps id)
-ends f c (Branch o id other) = e-branch (m-load f c 0 o (omega arith) refl) (a-load f 0 o) id other
-
 pub ending-narrow : {l : List Op} → Ending l → Narrow l
 unfolding uses
-ending-narrow (returns p) = (p .narrow .0, (slim Exit (omega arith), tt))
+ending-narrow (returns p d) = (p .narrow .0, (slim Exit (omega arith), tt))
 ending-narrow (jumps id) = tt
 ending-narrow (branches p id other) = (p .narrow .0, tt)
 
 pub ending-some : {l : List Op} → Ending l → 0 < slotsOf l
 unfolding slotsOf
-ending-some (returns p) = omega arith
+ending-some (returns p d) = omega arith
 ending-some (jumps id) = omega arith
 ending-some (branches p id other) = omega arith
 
@@ -209,7 +172,7 @@ module _ (b : List ℕ) (xs : List Start) (good : (p : ℕ) → Slot xs p → (p
     -- its instructions keep the shape rules
     pub ending-fine : {l : List Op} → Ending l → Here b xs s l → s + slotsOf l ≤ slots b → landing xs (patches place s l) ≡ lands → Kept b s (slotsOf l)
     unfolding slotsOf insns patches jas jnes uses
-    ending-fine (returns {i} p) h r e =
+    ending-fine (returns {i} p d) h r e =
         let n = after-plain b xs s i _ (p .narrow .0) h .1 in
         kept-cons (p .fine b xs s (front b xs s (plain i ∷ []) (plain exits ∷ []) h) (omega arith) .each s (omega arith) (omega arith) (h .begins))
         (kept-cons (fine-here b (suc s) keeps-exit (n .stands .0) refl) kept-none)
@@ -223,9 +186,9 @@ module _ (b : List ℕ) (xs : List Start) (good : (p : ℕ) → Slot xs p → (p
     -- from R6 and R10 its paths are safe
     pub ending-inside : {l : List Op} → Ending l → Here b xs s l → s + slotsOf l ≤ slots b → landing xs (patches place s l) ≡ lands → Inside b (Slot xs) s base
     unfolding slotsOf insns patches jas jnes uses reads after
-    ending-inside (returns {i} p) h r e =
+    ending-inside (returns {i} {D} p d) h r e =
         let n = after-plain b xs s i _ (p .narrow .0) h .1 in
-        let o : Safe b (Slot xs) (suc s) (with 0 base) = inside (exit-inside b (suc s) (n .stands .0) (omega arith) (with-has 0 base)) in
+        let o : Safe b (Slot xs) (suc s) D = inside (exit-inside b (suc s) (n .stands .0) (omega arith) d) in
         p .safe b xs (Slot xs) s (front b xs s (plain i ∷ []) (plain exits ∷ []) h) (omega arith) (rw add-one o)
     ending-inside (jumps id) h r e = ja-inside s id (landing-first xs _ _ e .0) under-same (omega arith) (h .stands .0)
     ending-inside (branches {i} p id other) h r e =
@@ -235,3 +198,43 @@ module _ (b : List ℕ) (xs : List Start) (good : (p : ℕ) → Slot xs p → (p
         let last = inside (ja-inside (suc (suc s)) other (far .0) u (omega arith) (n .stands .1 .0)) in
         let o = inside (jne-inside (suc s) id (landing-first xs _ _ (far .1) .0) u (with-has 0 base) (omega arith) (n .stands .0) last) in
         p .safe b xs (Slot xs) s (front b xs s (plain i ∷ []) (jne id ∷ ja other ∷ []) h) (omega arith) (rw add-one o)
+
+-- ---- each terminator becomes one of them, or is refused
+
+data Alone : Lowered → Type 0 where
+  one : (i : Insn) → Alone (becomes (plain i ∷ []))
+  nothing : {r : Reason} → Alone (refused r)
+
+a-constant : (t : Bool) (i : Insn) (r : Reason) → Alone (pick t (becomes (plain i ∷ [])) (refused r))
+a-constant true i r = one i
+a-constant false i r = nothing
+
+a-cell : (v : ℕ) (x : Cell) (g : ℤ → Insn) → Alone (onCell v x (λ z. becomes (plain (g z) ∷ [])))
+unfolding onCell
+a-cell v (At z) g = one (g z)
+a-cell v Missing g = nothing
+
+a-load : (f : Frame) (r : ℕ) (o : Operand) → Alone (load f r o)
+unfolding load constant insn
+a-load f r (Var v) = a-cell v (f .cell v) _
+a-load f r (Immediate z) = a-constant (fits32 z) _ _
+
+pub data Ends : Lowered → Type 1 where
+  some : {l : List Op} → Ending l → Ends (becomes l)
+  none : {r : Reason} → Ends (refused r)
+
+e-return : {x : Lowered} → Moves x base (with 0 base) → Alone x → Ends (x ▸ insn Exit 0 0 (pos 0) (pos 0))
+unfolding _▸_ insn
+e-return (Moves.some p) (one i) = some (returns p (with-has 0 base))
+e-return Moves.none nothing = none
+
+e-branch : {x : Lowered} → Moves x base (with 0 base) → Alone x → (id other : ℕ) → Ends (x ▸ becomes (jne id ∷ ja other ∷ []))
+unfolding _▸_
+e-branch (Moves.some p) (one i) id other = some (branches p id other)
+e-branch Moves.none nothing id other = none
+
+pub ends : (f : Frame) → Cells f → (t : Terminator) → Ends (terminator f t)
+unfolding terminator base
+ends f c (Return o) = e-return (m-load f c 0 o (omega arith) refl) (a-load f 0 o)
+ends f c (Jump id) = some (jumps id)
+ends f c (Branch o id other) = e-branch (m-load f c 0 o (omega arith) refl) (a-load f 0 o) id other

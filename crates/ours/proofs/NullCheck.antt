@@ -27,9 +27,9 @@ use Rattle.ours.proofs.Standing.{Narrow, Here, after-plain}
 use Rattle.ours.proofs.Pieces.{Kept, kept-none, kept-cons, Keeps, has-form, as-seen, fine-here, inside-here, step-here, Piece}
 use Rattle.ours.proofs.Steps.{none-read, one-read, with-has, slim, made, keeps-mov, keeps-jeq, keeps-ja, exits, keeps-exit, exit-inside}
 
--- R0 = n
-abbrev movs : ℕ → Insn
-movs n = made (opcodeOf MovImm) 0 0 (pos 0) (pos n)
+-- Rr = n
+abbrev movs : ℕ → ℕ → Insn
+movs r n = made (opcodeOf MovImm) r 0 (pos 0) (pos n)
 
 -- JEQ R0, 0 and JA, k slots further
 abbrev jeqs : ℕ → Insn
@@ -40,16 +40,16 @@ jas k = made (opcodeOf Ja) 0 0 (pos k) (pos 0)
 
 -- ---- one slot of it
 
-module _ (b : List ℕ) (s n : ℕ) (h : n < 2) (e : at b s ≡ seen (movs n)) where
-  keeps-bit : Keeps (movs n) MovImm (movs n)
+module _ (b : List ℕ) (s r n : ℕ) (low : r < 10) (h : n < 2) (e : at b s ≡ seen (movs r n)) where
+  keeps-bit : Keeps (movs r n) MovImm (movs r n)
   unfolding fits32
-  keeps-bit = keeps-mov 0 (pos n) (omega arith) (lt-ltb n (2 ^ 31) (omega arith))
+  keeps-bit = keeps-mov r (pos n) low (lt-ltb n (2 ^ 31) (omega arith))
 
   bit-fine : shapeAt b s ≡ S.Fine
   unfolding uses
   bit-fine = fine-here b s keeps-bit e refl
 
-  bit-safe : {Out : ℕ → Type 0} {D : Regs} → s < slots b → Safe b Out (suc s) (with 0 D) → Safe b Out s D
+  bit-safe : {Out : ℕ → Type 0} {D : Regs} → s < slots b → Safe b Out (suc s) (with r D) → Safe b Out s D
   unfolding uses reads after
   bit-safe l o = inside (step-here b s keeps-bit e refl refl l (none-read (λ x. refl)) o)
 
@@ -91,20 +91,20 @@ module _ (b : List ℕ) (s k t : ℕ) (few : k < 3) (q : suc s + k ≡ t) where
 -- ---- the result is a branch condition
 
 abbrev choosing : List Op
-choosing = plain (jeqs 2) ∷ plain (movs 1) ∷ plain (jas 1) ∷ plain (movs 0) ∷ []
+choosing = plain (jeqs 2) ∷ plain (movs 0 1) ∷ plain (jas 1) ∷ plain (movs 0 0) ∷ []
 
 choosing-narrow : Narrow choosing
 unfolding uses
 choosing-narrow = (slim JeqImm (omega arith), (slim MovImm (omega arith), (slim Ja (omega arith), (slim MovImm (omega arith), tt))))
 
 module _ (b : List ℕ) (xs : List Start) (s : ℕ) (h : Here b xs s choosing) (l : s + 4 < slots b) where
-  second : Here b xs (suc s) (plain (movs 1) ∷ plain (jas 1) ∷ plain (movs 0) ∷ [])
+  second : Here b xs (suc s) (plain (movs 0 1) ∷ plain (jas 1) ∷ plain (movs 0 0) ∷ [])
   second = after-plain b xs s _ _ (choosing-narrow .0) h .1
 
-  third : Here b xs (suc (suc s)) (plain (jas 1) ∷ plain (movs 0) ∷ [])
+  third : Here b xs (suc (suc s)) (plain (jas 1) ∷ plain (movs 0 0) ∷ [])
   third = after-plain b xs _ _ _ (choosing-narrow .1 .0) second .1
 
-  fourth : Here b xs (suc (suc (suc s))) (plain (movs 0) ∷ [])
+  fourth : Here b xs (suc (suc (suc s))) (plain (movs 0 0) ∷ [])
   fourth = after-plain b xs _ _ _ (choosing-narrow .1 .1 .0) third .1
 
   choosing-fine : Kept b s 4
@@ -112,16 +112,16 @@ module _ (b : List ℕ) (xs : List Start) (s : ℕ) (h : Here b xs s choosing) (
   choosing-fine =
       let fifth = after-plain b xs _ _ _ (choosing-narrow .1 .1 .1 .0) fourth .1 in
       kept-cons (jeq-fine b s 2 (suc (suc (suc s))) (omega arith) (omega arith) (h .stands .0) (omega arith) (fourth .begins))
-      (kept-cons (bit-fine b (suc s) 1 (omega arith) (second .stands .0))
+      (kept-cons (bit-fine b (suc s) 0 1 (omega arith) (omega arith) (second .stands .0))
       (kept-cons (ja-fine b (suc (suc s)) 1 (suc (suc (suc (suc s)))) (omega arith) (omega arith) (third .stands .0) (omega arith) (fifth .begins))
-      (kept-cons (bit-fine b (suc (suc (suc s))) 0 (omega arith) (fourth .stands .0)) kept-none)))
+      (kept-cons (bit-fine b (suc (suc (suc s))) 0 0 (omega arith) (omega arith) (fourth .stands .0)) kept-none)))
 
   choosing-inside : {Out : ℕ → Type 0} {D : Regs} → D 0 ≡ true → Safe b Out (suc (suc (suc (suc s)))) (with 0 D) → Inside b Out s D
   unfolding insns
   choosing-inside {Out} {D} d o =
-      let at4 : Safe b Out (suc (suc (suc s))) D = bit-safe b (suc (suc (suc s))) 0 (omega arith) (fourth .stands .0) (omega arith) o in
+      let at4 : Safe b Out (suc (suc (suc s))) D = bit-safe b (suc (suc (suc s))) 0 0 (omega arith) (omega arith) (fourth .stands .0) (omega arith) o in
       let at3 : Safe b Out (suc (suc s)) (with 0 D) = ja-safe b (suc (suc s)) 1 (suc (suc (suc (suc s)))) (omega arith) (omega arith) (third .stands .0) (omega arith) o in
-      let at2 : Safe b Out (suc s) D = bit-safe b (suc s) 1 (omega arith) (second .stands .0) (omega arith) at3 in
+      let at2 : Safe b Out (suc s) D = bit-safe b (suc s) 0 1 (omega arith) (omega arith) (second .stands .0) (omega arith) at3 in
       jeq-inside b s 2 (suc (suc (suc s))) (omega arith) (omega arith) (h .stands .0) (omega arith) d at2 at4
 
 pub choosing-piece : {D : Regs} → D 0 ≡ true → Piece choosing D (with 0 D)
@@ -137,24 +137,28 @@ choosing-piece {D} d =
 
 -- ---- it is none: where the value is 0, the program ends
 
+-- the register that EXIT hands over
+abbrev answer : ℕ
+answer = 0
+
 abbrev leaving : List Op
-leaving = plain (jeqs 1) ∷ plain (jas 2) ∷ plain (movs 0) ∷ plain exits ∷ plain (movs 1) ∷ []
+leaving = plain (jeqs 1) ∷ plain (jas 2) ∷ plain (movs answer 0) ∷ plain exits ∷ plain (movs 0 1) ∷ []
 
 leaving-narrow : Narrow leaving
 unfolding uses
 leaving-narrow = (slim JeqImm (omega arith), (slim Ja (omega arith), (slim MovImm (omega arith), (slim Exit (omega arith), (slim MovImm (omega arith), tt)))))
 
 module _ (b : List ℕ) (xs : List Start) (s : ℕ) (h : Here b xs s leaving) (l : s + 5 < slots b) where
-  after-first : Here b xs (suc s) (plain (jas 2) ∷ plain (movs 0) ∷ plain exits ∷ plain (movs 1) ∷ [])
+  after-first : Here b xs (suc s) (plain (jas 2) ∷ plain (movs answer 0) ∷ plain exits ∷ plain (movs 0 1) ∷ [])
   after-first = after-plain b xs s _ _ (leaving-narrow .0) h .1
 
-  after-second : Here b xs (suc (suc s)) (plain (movs 0) ∷ plain exits ∷ plain (movs 1) ∷ [])
+  after-second : Here b xs (suc (suc s)) (plain (movs answer 0) ∷ plain exits ∷ plain (movs 0 1) ∷ [])
   after-second = after-plain b xs _ _ _ (leaving-narrow .1 .0) after-first .1
 
-  after-third : Here b xs (suc (suc (suc s))) (plain exits ∷ plain (movs 1) ∷ [])
+  after-third : Here b xs (suc (suc (suc s))) (plain exits ∷ plain (movs 0 1) ∷ [])
   after-third = after-plain b xs _ _ _ (leaving-narrow .1 .1 .0) after-second .1
 
-  after-fourth : Here b xs (suc (suc (suc (suc s)))) (plain (movs 1) ∷ [])
+  after-fourth : Here b xs (suc (suc (suc (suc s)))) (plain (movs 0 1) ∷ [])
   after-fourth = after-plain b xs _ _ _ (leaving-narrow .1 .1 .1 .0) after-third .1
 
   leaving-fine : Kept b s 5
@@ -162,16 +166,16 @@ module _ (b : List ℕ) (xs : List Start) (s : ℕ) (h : Here b xs s leaving) (l
   leaving-fine =
       kept-cons (jeq-fine b s 1 (suc (suc s)) (omega arith) (omega arith) (h .stands .0) (omega arith) (after-second .begins))
       (kept-cons (ja-fine b (suc s) 2 (suc (suc (suc (suc s)))) (omega arith) (omega arith) (after-first .stands .0) (omega arith) (after-fourth .begins))
-      (kept-cons (bit-fine b (suc (suc s)) 0 (omega arith) (after-second .stands .0))
+      (kept-cons (bit-fine b (suc (suc s)) answer 0 (omega arith) (omega arith) (after-second .stands .0))
       (kept-cons (fine-here b (suc (suc (suc s))) keeps-exit (after-third .stands .0) refl)
-      (kept-cons (bit-fine b (suc (suc (suc (suc s)))) 1 (omega arith) (after-fourth .stands .0)) kept-none))))
+      (kept-cons (bit-fine b (suc (suc (suc (suc s)))) 0 1 (omega arith) (omega arith) (after-fourth .stands .0)) kept-none))))
 
   leaving-inside : {Out : ℕ → Type 0} {D : Regs} → D 0 ≡ true → Safe b Out (suc (suc (suc (suc (suc s))))) (with 0 D) → Inside b Out s D
   unfolding insns
   leaving-inside {Out} {D} d o =
-      let at5 : Safe b Out (suc (suc (suc (suc s)))) D = bit-safe b (suc (suc (suc (suc s)))) 1 (omega arith) (after-fourth .stands .0) (omega arith) o in
-      let at4 : Safe b Out (suc (suc (suc s))) (with 0 D) = inside (exit-inside b (suc (suc (suc s))) (after-third .stands .0) (omega arith) (with-has 0 D)) in
-      let at3 : Safe b Out (suc (suc s)) D = bit-safe b (suc (suc s)) 0 (omega arith) (after-second .stands .0) (omega arith) at4 in
+      let at5 : Safe b Out (suc (suc (suc (suc s)))) D = bit-safe b (suc (suc (suc (suc s)))) 0 1 (omega arith) (omega arith) (after-fourth .stands .0) (omega arith) o in
+      let at4 : Safe b Out (suc (suc (suc s))) (with answer D) = inside (exit-inside b (suc (suc (suc s))) (after-third .stands .0) (omega arith) (with-has answer D)) in
+      let at3 : Safe b Out (suc (suc s)) D = bit-safe b (suc (suc s)) answer 0 (omega arith) (omega arith) (after-second .stands .0) (omega arith) at4 in
       let at2 : Safe b Out (suc s) D = ja-safe b (suc s) 2 (suc (suc (suc (suc s)))) (omega arith) (omega arith) (after-first .stands .0) (omega arith) at5 in
       jeq-inside b s 1 (suc (suc s)) (omega arith) (omega arith) (h .stands .0) (omega arith) d at2 at3
 

@@ -11,9 +11,11 @@ use lib.ListN.{length, getD, set, length-set, List·getD-eq-default}
 use lib.Seq.{getD-set-same}
 use borrow.Author.Tests.{le-leb, lt-ltb, leb-true, ltb-true}
 use Rattle.wire.specs.Pick.{both, either}
-use Rattle.worklist.specs.Words.{listed, Marked}
+use Rattle.worklist.specs.Words.{listed, Sound}
+use Rattle.worklist.specs.Set.{markedLow, markedMid, markedTop}
 use Rattle.worklist.proofs.Bit.{low-bit}
 use Rattle.worklist.proofs.Total.{after-set}
+use Rattle.worklist.proofs.Words.{marked}
 use Rattle.shape.specs.Code.{slots, at}
 use Rattle.paths.specs.Registers.{Regs, atStart}
 use Rattle.paths.specs.Way.{Next, Way, Way.begin, Way.step, Passes}
@@ -59,8 +61,9 @@ module _ (b t : List ℕ) (size : length t ≡ slots b) (some : 0 < length t) (a
         waiting = λ v. after-set (λ k z. 4096 ≤ z → Reached b k) t 0 5122 v some (λ _. (atStart, begin)) (λ _ f. absurd (omega (arith, low v)));
       }
 
-  pub began : (d s : List ℕ) {d' s' : List ℕ} {top : ℕ} → Marked d s 0 0 d' s' top → Work b (set t 0 5122) d' s' top
-  began d s {d'} M =
+  pub began : (d s : List ℕ) → Sound d s 0 → Work b (set t 0 5122) (markedLow d 0) (markedMid s 0) (markedTop 0 0)
+  began d s S =
+      let M = marked d s 0 S 0 in
       record {
         table = began-table;
         kept =
@@ -68,7 +71,7 @@ module _ (b t : List ℕ) (size : length t ≡ slots b) (some : 0 < length t) (a
               sound = M .sound;
               has =
                   λ v f _.
-                  after-set (λ k z. k ≡ v → 4096 ≤ z → listed d' k ≡ 1) t 0 5122 v some (λ _ _. M .here (omega arith)) (λ _ _ f. absurd (omega (arith, low v))) refl f;
+                  after-set (λ k z. k ≡ v → 4096 ≤ z → listed (markedLow d 0) k ≡ 1) t 0 5122 v some (λ _ _. M .here (omega arith)) (λ _ _ f. absurd (omega (arith, low v))) refl f;
             };
       }
 

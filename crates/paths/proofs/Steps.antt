@@ -10,9 +10,10 @@ use lib.Bits.{and-le-l}
 use lib.ListN.{length, getD, set, length-set, List·getD-eq-default}
 use lib.Seq.{getD-set-same}
 use Rattle.worklist.specs.Words.{total, listed, Marked, Took}
+use Rattle.worklist.specs.Set.{lead, takenLow, takenMid, taken}
 use Rattle.worklist.specs.declared.Taken.{Taken}
 use Rattle.worklist.proofs.Total.{total-set, after-set}
-use Rattle.worklist.proofs.Words.{empty}
+use Rattle.worklist.proofs.Words as words
 use Rattle.shape.specs.Code.{slots}
 use Rattle.paths.specs.Way.{Next, Way.step, Lacks}
 use Rattle.paths.specs.Readable.{bit}
@@ -58,10 +59,10 @@ relaxes b x t d s top w out T K ln comes lacks (past h) =
     record { table = T; kept = K; fell = falls-refl t; under = λ l. absurd (omega arith); less = le-refl _ }
 relaxes b x t d s top w out T K ln comes lacks (same l e) =
     record { table = T; kept = K; fell = falls-refl t; under = λ _. sub-at (lowered t w out) (sym e) (sub-and-r (tab t w) out); less = le-refl _ }
-relaxes b x t d s top w out T K ln comes lacks (pushed l f ne mark) =
+relaxes b x t d s top w out T K ln comes lacks (pushed l f ne) =
     let lw : w < slots b = omega (arith, T .size) in
     let y : ℕ = lowered t w out + 4096 in
-    let M = mark (K .sound) in
+    let M = words.marked d s top (K .sound) w in
     let fall : total rank (set t w y) + 1 ≤ total rank t = omega (arith, total-set rank t w y l, and-le-l (tab t w) out, ne) in
     record {
       table = stored b x t w out T l (comes lw) (λ r lr z. lacks r lw lr z);
@@ -85,7 +86,7 @@ relaxes b x t d s top w out T K ln comes lacks (again l f ne) =
 pub relaxed-length : {t d s t' d' s' : List ℕ} {top w out top' : ℕ} → Relaxed t d s top w out t' d' s' top' → length t' ≡ length t
 relaxed-length (past h) = refl
 relaxed-length (same l e) = refl
-relaxed-length (pushed l f ne m) = simp length-set
+relaxed-length (pushed l f ne) = simp length-set
 relaxed-length (again l f ne) = simp length-set
 
 -- ---- a visit to slot v
@@ -166,17 +167,20 @@ flagged-lt t v f = go (decLt v (length t))
     go (yes h) = h
     go (no h) = absurd (omega (arith, List·getD-eq-default t 0 {n = v} (omega arith)))
 
-module _ (b t d s : List ℕ) (top : ℕ) {d' s' : List ℕ} {r : Taken} (W : Work b t d s top) (K : Took d s top d' s' r) where
+module _ (b t d s : List ℕ) (top : ℕ) {d' s' : List ℕ} {r : Taken} (W : Work b t d s top) (E : (r ≡ taken top (lead d s top)) × ((d' ≡ takenLow d (lead d s top)) × (s' ≡ takenMid s (lead d s top)))) where
+  takes : Took d s top d' s' r
+  takes = rw (E .0, E .1 .0, E .1 .1) (words.took d s top (W .kept .sound))
+
   pub took : Kept (r .slot) t d' s' (r .top)
   took =
       record {
-        sound = K .sound;
-        has = λ v f ne. K .keeps v (W .kept .has v f (λ q. omega (arith, flagged-lt t v f, W .table .size))) ne;
+        sound = takes .sound;
+        has = λ v f ne. takes .keeps v (W .kept .has v f (λ q. omega (arith, flagged-lt t v f, W .table .size))) ne;
       }
 
   pub took-less : 0 < top → left t d' s' (r .top) < left t d s top
   unfolding left
-  took-less h = omega (arith, K .less h)
+  took-less h = omega (arith, takes .less h)
 
   pub took-none : 0 < top → getD t (r .slot) 0 < 4096 → Work b t d' s' (r .top) × (left t d' s' (r .top) < left t d s top)
   took-none h lo = (
@@ -184,7 +188,7 @@ module _ (b t d s : List ℕ) (top : ℕ) {d' s' : List ℕ} {r : Taken} (W : Wo
       table = W .table;
       kept =
           record {
-            sound = K .sound;
+            sound = takes .sound;
             has = λ v f _. took .has v f (λ q. let g : 4096 ≤ getD t (r .slot) 0 = subst (λ (k : ℕ). 4096 ≤ getD t k 0) q f in omega arith);
           };
     },
@@ -202,4 +206,4 @@ settled b t d s top W z = record { table = W .table; calm = λ v. go v (decLt (g
     go v (yes h) = h
     go v (no h) =
         let f : 4096 ≤ getD t v 0 = omega arith in
-        absurd (empty d s top (W .kept .sound) z v (W .kept .has v f (λ q. omega (arith, flagged-lt t v f, W .table .size))))
+        absurd (words.empty d s top (W .kept .sound) z v (W .kept .has v f (λ q. omega (arith, flagged-lt t v f, W .table .size))))

@@ -8,7 +8,8 @@ use lib.Bits.{bitAnd, bitOr}
 use lib.Dec.{ltb, leb}
 use lib.ListN.{length, getD, set}
 use Rattle.wire.specs.Pick.{both, either}
-use Rattle.worklist.specs.Words.{total, listed, Sound, weight, Marked}
+use Rattle.worklist.specs.Words.{total, listed, Sound, weight}
+use Rattle.worklist.specs.Set.{markedLow, markedMid, markedTop}
 use Rattle.shape.specs.Code.{slots}
 use Rattle.paths.specs.Registers.{Regs}
 use Rattle.paths.specs.Way.{Next, Way, Lacks}
@@ -70,8 +71,8 @@ lowered t w out = bitAnd (tab t w) out
 pub data Relaxed (t d s : List ℕ) (top w out : ℕ) : List ℕ → List ℕ → List ℕ → ℕ → Type 0 where
   past : length t ≤ w → Relaxed t d s top w out t d s top
   same : w < length t → lowered t w out ≡ tab t w → Relaxed t d s top w out t d s top
-  pushed : {d' s' : List ℕ} {top' : ℕ} → w < length t → getD t w 0 < 4096 → (lowered t w out ≡ tab t w → ⊥)
-      → (Sound d s top → Marked d s top w d' s' top') → Relaxed t d s top w out (set t w (lowered t w out + 4096)) d' s' top'
+  pushed : w < length t → getD t w 0 < 4096 → (lowered t w out ≡ tab t w → ⊥)
+      → Relaxed t d s top w out (set t w (lowered t w out + 4096)) (markedLow d w) (markedMid s w) (markedTop top w)
   again : w < length t → 4096 ≤ getD t w 0 → (lowered t w out ≡ tab t w → ⊥)
       → Relaxed t d s top w out (set t w (lowered t w out + 4096)) d s top
 

@@ -105,6 +105,8 @@ one-answer =
       tracepoint-compile-tracepoint = λ κ a x y s t p q. cc;
       shape-length-ok = λ κ a x y s t p q. cc;
       shape-judge = λ κ a x y s t p q. cc;
+      worklist-mark = λ κ a x y s t p q. cc;
+      worklist-take = λ κ a x y s t p q. cc;
       paths-analyse = λ κ a x y s t p q. let E = paths.one-answer (now (a .0)) (now (a .1 .0)) (now (s .1 .0)) (now (t .1 .0)) x y p q in both-same (E .1) (E .0);
       paths-read-mask = λ κ a x y s t p q. cc;
       screen-refusal = λ κ a x y s t p q. cc;

@@ -18,6 +18,7 @@ use Rattle.lower.proofs as lower
 use Rattle.jumps.proofs as jumps
 use Rattle.tracepoint.proofs as tracepoint
 use Rattle.shape.proofs as shape
+use Rattle.worklist.proofs as worklist
 use Rattle.paths.proofs as paths
 use Rattle.screen.proofs as screen
 use Rattle.recordfields.proofs as recordfields
@@ -34,7 +35,7 @@ infixl 4 _and_
 abbrev pub _and_ : {A B : Type 0} → A → B → A × B
 a and b = (a, b)
 
--- every function that a library crate lets others call, but for `worklist::mark` and `worklist::take`; Reads.Post is its contract, as its source has it
+-- every function that a library crate lets others call; Reads.Post is its contract, as its source has it
 pub record OneAnswer : Type 0 where
   pub wire-get-u8 : DecidesAnswer wire.get_u8.Reads.Post
   pub wire-get-u16 : DecidesAnswer wire.get_u16.Reads.Post
@@ -101,6 +102,8 @@ pub record OneAnswer : Type 0 where
   pub tracepoint-compile-tracepoint : Decides tracepoint.compile_tracepoint.Reads.Post (λ κ r (_, (code, (relocs, _))). r and now code and now relocs)
   pub shape-length-ok : DecidesAnswer shape.length_ok.Reads.Post
   pub shape-judge : DecidesAnswer shape.judge.Reads.Post
+  pub worklist-mark : Decides worklist.mark.Reads.Post (λ κ r (d, (s, _)). r and now d and now s)
+  pub worklist-take : Decides worklist.take.Reads.Post (λ κ r (d, (s, _)). r and now d and now s)
   pub paths-analyse : Decides paths.analyse.Reads.Post (λ κ r (_, (table, _)). r and now table)
   pub paths-read-mask : DecidesAnswer paths.read_mask.Reads.Post
   pub screen-refusal : DecidesAnswer screen.refusal.Reads.Post

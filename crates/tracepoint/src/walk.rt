@@ -31,7 +31,7 @@ pub(crate) fn after(emitted: &[u8; 1024], st: State, value: Record) -> State
         Record::Block(_) => State {
             block: st.block,
             emits: flag(emitted, st.block),
-            scratch: st.scratch,
+            scratch: st.scratch, // the ring goes on through the unit
         },
         Record::Instruction(i) => {
             if st.emits {

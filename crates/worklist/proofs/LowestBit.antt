@@ -1,4 +1,4 @@
--- The lowest set bit of a word, by `trailing_zeros`: which it is, and the word without it.
+-- The lowest set bit of a number, by `trailing_zeros`: which it is, and the number without it.
 use mathlib.Core.Path.{_≡_, refl, sym, ap, _∙_, subst}
 use Prim.Native.Nat.{ℕ, zero, suc, _-_, _*_, _/_, _%_, _^_, _<_}
 use native.Mathlib.Nat.{pow-suc, le-of-suc-le-suc, one-mul}
@@ -8,6 +8,7 @@ use lib.Bits.{bitOr}
 use lib.Count.{trailingZeros, under}
 use lib.Pow.{pow-mono, shl-exact}
 use Rattle.worklist.specs.Words.{bit, Lowest}
+use Rattle.worklist.specs.Set.{lowestBit}
 use Rattle.worklist.proofs.Bit.{bit-le, bit-or, bit-zero, bit-suc}
 
 pub lowest : (k n : ℕ) → 0 < n → n < 2 ^ k → Lowest n (trailingZeros k n)
@@ -52,6 +53,27 @@ lowest (suc k) n p l = go (n % 2) refl (λ h1 h2. lowest k (n / 2) h1 h2)
     go : (b : ℕ) → n % 2 ≡ b → (0 < n / 2 → n / 2 < 2 ^ k → Lowest (n / 2) (trailingZeros k (n / 2))) → Lowest n (under (n % 2) (trailingZeros k (n / 2)))
     go zero e ih = subst (λ (b : ℕ). Lowest n (under b (trailingZeros k (n / 2)))) (sym e) (even (trailingZeros k (n / 2)) e (ih (omega arith) half))
     go (suc b) e ih = subst (λ (b : ℕ). Lowest n (under b (trailingZeros k (n / 2)))) (sym e) (odd (omega arith))
+
+below-pow : (n : ℕ) → n < 2 ^ n
+below-pow zero = omega arith
+below-pow (suc n) = omega (arith, pow-suc 2 n, below-pow n)
+
+pub lowest-bit : (n : ℕ) → 0 < n → Lowest n (lowestBit n)
+unfolding lowestBit
+lowest-bit n p = lowest n n p (below-pow n)
+
+-- a number has one lowest set bit
+one-lowest : (n y z : ℕ) → Lowest n y → Lowest n z → y ≡ z
+one-lowest n y z Y Z = go (decLt y z) (decLt z y)
+  where
+    go : Dec (y < z) → Dec (z < y) → y ≡ z
+    go (yes h) _ = absurd (omega (arith, Y .set, Z .clear y h))
+    go (no _) (yes h) = absurd (omega (arith, Z .set, Y .clear z h))
+    go (no h) (no g) = omega arith
+
+-- which the zeros within any width that holds the number tell
+pub zeros-lowest : (k n : ℕ) → 0 < n → n < 2 ^ k → trailingZeros k n ≡ lowestBit n
+zeros-lowest k n p l = one-lowest n (trailingZeros k n) (lowestBit n) (lowest k n p l) (lowest-bit n p)
 
 -- a set bit b of x | 2 ^ b, and the other bits stay
 pub bit-pow : (b : ℕ) → bit (2 ^ b) b ≡ 1

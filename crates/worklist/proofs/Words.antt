@@ -1,29 +1,28 @@
 -- Putting a slot into the set, and taking one out.
 use mathlib.Core.Path.{_≡_, refl, sym, ap, _∙_, subst}
 use mathlib.Core.List.{List}
+use mathlib.Core.Bool.{Bool, true, false}
 use Prim.Native.Nat.{ℕ, _+_, _-_, _*_, _/_, _%_, _^_, _≤_, _<_}
 use native.Mathlib.Decide.{decLt}
 use native.Mathlib.Omega.{arith}
 use lib.Bits.{bitOr, or-add-and, or-lt}
+use lib.Dec.{eqb, leb, ltb}
 use lib.Pow.{pow-mono, pow-lt, pow-pos}
 use lib.ListN.{length, getD, set, length-set, List·getD-eq-default, replicate, length-replicate, getD-replicate}
 use lib.Seq.{getD-set-same}
+use borrow.Author.Tests.{ltb-true, ltb-false, leb-true, leb-false, eqb-true, eqb-false}
+use Rattle.wire.specs.Pick.{pick, either}
 use Rattle.worklist.specs.Words.{bit, Lowest, total, itself, listed, Sound, weight, Marked, Took}
+use Rattle.worklist.specs.Set.{withBit, withoutBit, markedLow, markedMid, markedTop, lowestBit, Lead, Lead.nowhere, Lead.toSummary, Lead.toWord, Lead.toSlot, fromWord, fromSummary, lead, takenLow, takenMid, taken}
+use Rattle.worklist.specs.declared.Taken.{Taken}
 use Rattle.worklist.proofs.Bit.{nonzero}
-use Rattle.worklist.proofs.LowestBit.{or-pow, or-keeps, lowest-below}
+use Rattle.worklist.proofs.LowestBit.{or-pow, or-keeps, lowest-bit, lowest-below}
 use Rattle.worklist.proofs.Total.{total-set, after-set}
 
--- the list with bit b of word i set, and without word i's bit z
-abbrev pub mk : List ℕ → ℕ → ℕ → List ℕ
-mk l i b = set l i (bitOr (getD l i 0) (2 ^ b))
-
-abbrev pub rm : List ℕ → ℕ → ℕ → List ℕ
-rm l i z = set l i (getD l i 0 - 2 ^ z)
-
-mk-here : (l : List ℕ) (i b : ℕ) → i < length l → bit (getD (mk l i b) i 0) b ≡ 1
+mk-here : (l : List ℕ) (i b : ℕ) → i < length l → bit (getD (withBit l i b) i 0) b ≡ 1
 mk-here l i b h = ap (λ (x : ℕ). bit x b) (getD-set-same l i (bitOr (getD l i 0) (2 ^ b)) 0 h) ∙ or-pow (getD l i 0) b
 
-mk-keeps : (l : List ℕ) (i b k r : ℕ) → i < length l → bit (getD l k 0) r ≡ 1 → bit (getD (mk l i b) k 0) r ≡ 1
+mk-keeps : (l : List ℕ) (i b k r : ℕ) → i < length l → bit (getD l k 0) r ≡ 1 → bit (getD (withBit l i b) k 0) r ≡ 1
 mk-keeps l i b k r h e =
     after-set (λ j z. j ≡ k → bit z r ≡ 1) l i (bitOr (getD l i 0) (2 ^ b)) k h
     (λ q. or-keeps (getD l i 0) (2 ^ b) r (ap (λ (x : ℕ). bit (getD l x 0) r) q ∙ e)) (λ _ _. e) refl
@@ -31,21 +30,21 @@ mk-keeps l i b k r h e =
 or-most : (a b : ℕ) → b < 64 → bitOr a (2 ^ b) ≤ a + 2 ^ 63
 or-most a b h = omega (arith, or-add-and a (2 ^ b), pow-mono {i = b} {j = 63} (omega arith))
 
-mk-most : (l : List ℕ) (i b : ℕ) → i < length l → b < 64 → total itself (mk l i b) ≤ total itself l + 2 ^ 63
+mk-most : (l : List ℕ) (i b : ℕ) → i < length l → b < 64 → total itself (withBit l i b) ≤ total itself l + 2 ^ 63
 mk-most l i b h hb = omega (arith, total-set itself l i (bitOr (getD l i 0) (2 ^ b)) h, or-most (getD l i 0) b hb)
 
-rm-keeps : (l : List ℕ) (i z k r : ℕ) → i < length l → Lowest (getD l i 0) z → bit (getD l k 0) r ≡ 1 → (k ≡ i → r ≡ z → ⊥) → bit (getD (rm l i z) k 0) r ≡ 1
+rm-keeps : (l : List ℕ) (i z k r : ℕ) → i < length l → Lowest (getD l i 0) z → bit (getD l k 0) r ≡ 1 → (k ≡ i → r ≡ z → ⊥) → bit (getD (withoutBit l i z) k 0) r ≡ 1
 rm-keeps l i z k r h L e ne =
     after-set (λ j y. j ≡ k → bit y r ≡ 1) l i (getD l i 0 - 2 ^ z) k h
     (λ q. L .rest r (ne (sym q)) ∙ ap (λ (x : ℕ). bit (getD l x 0) r) q ∙ e) (λ _ _. e) refl
 
 -- a word that is not 0 after a bit was taken was not 0 before
-rm-zero : (l : List ℕ) (i z k : ℕ) → i < length l → (getD (rm l i z) k 0 ≡ 0 → ⊥) → getD l k 0 ≡ 0 → ⊥
+rm-zero : (l : List ℕ) (i z k : ℕ) → i < length l → (getD (withoutBit l i z) k 0 ≡ 0 → ⊥) → getD l k 0 ≡ 0 → ⊥
 rm-zero l i z k h =
     after-set (λ j y. j ≡ k → (y ≡ 0 → ⊥) → getD l k 0 ≡ 0 → ⊥) l i (getD l i 0 - 2 ^ z) k h
     (λ q n e. n (let e2 : getD l i 0 ≡ 0 = ap (λ (x : ℕ). getD l x 0) q ∙ e in omega arith)) (λ _ _ n e. n e) refl
 
-rm-less : (l : List ℕ) (i z : ℕ) → i < length l → Lowest (getD l i 0) z → total itself (rm l i z) < total itself l
+rm-less : (l : List ℕ) (i z : ℕ) → i < length l → Lowest (getD l i 0) z → total itself (withoutBit l i z) < total itself l
 rm-less l i z h L = omega (arith, total-set itself l i (getD l i 0 - 2 ^ z) h, L .has, pow-pos z)
 
 module _ (d s : List ℕ) (top : ℕ) (S : Sound d s top) where
@@ -56,10 +55,10 @@ module _ (d s : List ℕ) (top : ℕ) (S : Sound d s top) where
       nonzero top (v / 64 / 64)
       (S .summaries (v / 64 / 64) (nonzero (getD s (v / 64 / 64) 0) (v / 64 % 64) (S .words (v / 64) (nonzero (getD d (v / 64) 0) (v % 64) e)))) z
 
-  pub marked : (w : ℕ) → w < 131072
-      → Marked d s top w (mk d (w / 64) (w % 64)) (mk s (w / 64 / 64) (w / 64 % 64)) (bitOr top (2 ^ (w / 64 / 64)))
+  put-in : (w : ℕ) → w < 131072
+      → Marked d s top w (withBit d (w / 64) (w % 64)) (withBit s (w / 64 / 64) (w / 64 % 64)) (bitOr top (2 ^ (w / 64 / 64)))
   unfolding listed weight
-  marked w l =
+  put-in w l =
       record {
         sound =
             record {
@@ -69,8 +68,8 @@ module _ (d s : List ℕ) (top : ℕ) (S : Sound d s top) where
               words =
                   λ j n.
                   after-set
-                  (λ u z. u ≡ j → (z ≡ 0 → ⊥) → bit (getD (mk s (w / 64 / 64) (w / 64 % 64)) (j / 64) 0) (j % 64) ≡ 1) d (w / 64) (bitOr (getD d (w / 64) 0) (2 ^ (w % 64))) j (omega (arith, S .low))
-                  (λ q _. subst (λ (u : ℕ). bit (getD (mk s (w / 64 / 64) (w / 64 % 64)) (u / 64) 0) (u % 64) ≡ 1) q (mk-here s (w / 64 / 64) (w / 64 % 64) (omega (arith, S .mid))))
+                  (λ u z. u ≡ j → (z ≡ 0 → ⊥) → bit (getD (withBit s (w / 64 / 64) (w / 64 % 64)) (j / 64) 0) (j % 64) ≡ 1) d (w / 64) (bitOr (getD d (w / 64) 0) (2 ^ (w % 64))) j (omega (arith, S .low))
+                  (λ q _. subst (λ (u : ℕ). bit (getD (withBit s (w / 64 / 64) (w / 64 % 64)) (u / 64) 0) (u % 64) ≡ 1) q (mk-here s (w / 64 / 64) (w / 64 % 64) (omega (arith, S .mid))))
                   (λ _ _ m. mk-keeps s (w / 64 / 64) (w / 64 % 64) (j / 64) (j % 64) (omega (arith, S .mid)) (S .words j m)) refl n;
               summaries =
                   λ i n.
@@ -84,24 +83,27 @@ module _ (d s : List ℕ) (top : ℕ) (S : Sound d s top) where
             omega (arith, mk-most d (w / 64) (w % 64) (omega (arith, S .low)) (omega arith), mk-most s (w / 64 / 64) (w / 64 % 64) (omega (arith, S .mid)) (omega arith), or-most top (w / 64 / 64) (omega arith));
       }
 
-  pub unmarked : (w : ℕ) → 131072 ≤ w → Marked d s top w d s top
-  unmarked w h = record { sound = S; here = λ l. absurd (omega arith); keeps = λ v e. e; most = omega arith }
+  pub marked : (w : ℕ) → Marked d s top w (markedLow d w) (markedMid s w) (markedTop top w)
+  unfolding markedLow markedMid markedTop
+  marked w = go (ltb w 131072) refl
+    where
+      go : (t : Bool) → ltb w 131072 ≡ t
+          → Marked d s top w (pick t (withBit d (w / 64) (w % 64)) d) (pick t (withBit s (w / 64 / 64) (w / 64 % 64)) s) (pick t (bitOr top (2 ^ (w / 64 / 64))) top)
+      go true e = put-in w (ltb-true w 131072 e)
+      go false e = record { sound = S; here = λ l. absurd (omega (arith, ltb-false w 131072 e)); keeps = λ v h. h; most = omega arith }
 
-  -- nothing is there to take
-  pub took-nothing : top ≡ 0 → Took d s top d s (record { top = 0; slot = 131072 })
-  took-nothing e = record { sound = rw e at S; keeps = λ v h _. h; less = λ h. absurd (omega arith) }
+  -- what is taken where the lowest bits lead
+  abbrev Takes : Lead → Type 0
+  Takes l = Took d s top (takenLow d l) (takenMid s l) (taken top l)
 
-  low-summary : (i : ℕ) → Lowest top i → i < 32
-  low-summary i L = lowest-below 32 top i (S .high) L
+  nothing : top ≡ 0 → Takes nowhere
+  unfolding takenLow takenMid taken
+  nothing e = record { sound = rw e at S; keeps = λ v h _. h; less = λ h. absurd (omega arith) }
 
-  pub took-far : (i : ℕ) → Lowest top i → 32 ≤ i → Took d s top d s (record { top = 0; slot = 131072 })
-  took-far i L h = absurd (omega (arith, low-summary i L))
-
-  -- a bit of the top word, of a summary, of a word
-  pub took-top : (i o : ℕ) → Lowest top i → o ≡ 2 ^ i → getD s i 0 ≡ 0 → Took d s top d s (record { top = top - o; slot = 131072 })
-  unfolding weight
-  took-top i o L e z =
-      rw e (record {
+  off-top : (i : ℕ) → Lowest top i → getD s i 0 ≡ 0 → Takes (toSummary i)
+  unfolding weight takenLow takenMid taken
+  off-top i L z =
+      record {
         sound =
             record {
               low = S .low;
@@ -112,13 +114,12 @@ module _ (d s : List ℕ) (top : ℕ) (S : Sound d s top) where
             };
         keeps = λ v h _. h;
         less = λ _. omega (arith, L .has, pow-pos i);
-      })
+      }
 
-  pub took-summary : (i k o : ℕ) → i < 32 → Lowest (getD s i 0) k → o ≡ 2 ^ k → getD d (i * 64 + k) 0 ≡ 0
-      → Took d s top d (set s i (getD s i 0 - o)) (record { top = top; slot = 131072 })
-  unfolding weight
-  took-summary i k o li L e z =
-      rw e (record {
+  off-summary : (i k : ℕ) → i < 32 → Lowest (getD s i 0) k → getD d (i * 64 + k) 0 ≡ 0 → Takes (toWord i k)
+  unfolding weight takenLow takenMid taken
+  off-summary i k li L z =
+      record {
         sound =
             record {
               low = S .low;
@@ -131,24 +132,68 @@ module _ (d s : List ℕ) (top : ℕ) (S : Sound d s top) where
             };
         keeps = λ v h _. h;
         less = λ _. omega (arith, rm-less s i k (omega (arith, S .mid)) L);
-      })
+      }
 
-  pub took-slot : (j b o : ℕ) → j < 2048 → b < 64 → Lowest (getD d j 0) b → o ≡ 2 ^ b
-      → Took d s top (set d j (getD d j 0 - o)) s (record { top = top; slot = j * 64 + b })
-  unfolding weight listed
-  took-slot j b o lj lb L e =
-      rw e (record {
+  off-word : (j b : ℕ) → j < length d → Lowest (getD d j 0) b → Takes (toSlot j b)
+  unfolding weight listed takenLow takenMid taken
+  off-word j b lj L =
+      record {
         sound =
             record {
               low = length-set d _ _ ∙ S .low;
               mid = S .mid;
               high = S .high;
-              words = λ k n. S .words k (rm-zero d j b k (omega (arith, S .low)) n);
+              words = λ k n. S .words k (rm-zero d j b k lj n);
               summaries = S .summaries;
             };
-        keeps = λ v h ne. rm-keeps d j b (v / 64) (v % 64) (omega (arith, S .low)) L h (λ p q. ne (omega arith));
-        less = λ _. omega (arith, rm-less d j b (omega (arith, S .low)) L);
-      })
+        keeps = λ v h ne. rm-keeps d j b (v / 64) (v % 64) lj L h (λ p q. ne (omega arith));
+        less = λ _. omega (arith, rm-less d j b lj L);
+      }
+
+  -- a word that is not 0 is one of the list
+  inside : (j : ℕ) → (getD d j 0 ≡ 0 → ⊥) → j < length d
+  inside j n = go (decLt j (length d))
+    where
+      go : Dec (j < length d) → j < length d
+      go (yes h) = h
+      go (no h) = absurd (n (List·getD-eq-default d 0 {n = j} (omega arith)))
+
+  takes-word : (i k : ℕ) → i < 32 → Lowest (getD s i 0) k → Takes (fromWord i k (getD d (i * 64 + k) 0))
+  unfolding fromWord
+  takes-word i k li L = go (eqb word 0) refl
+    where
+      word : ℕ
+      word = getD d (i * 64 + k) 0
+
+      go : (t : Bool) → eqb word 0 ≡ t → Takes (pick t (toWord i k) (toSlot (i * 64 + k) (lowestBit word)))
+      go true e = off-summary i k li L (eqb-true word 0 e)
+      go false e = off-word (i * 64 + k) (lowestBit word) (inside (i * 64 + k) (eqb-false word 0 e)) (lowest-bit word (omega (arith, eqb-false word 0 e)))
+
+  takes-summary : (i : ℕ) → i < 32 → Lowest top i → Takes (fromSummary d i (getD s i 0))
+  unfolding fromSummary
+  takes-summary i li L = go (eqb word 0) refl
+    where
+      word : ℕ
+      word = getD s i 0
+
+      go : (t : Bool) → eqb word 0 ≡ t → Takes (pick t (toSummary i) (fromWord i (lowestBit word) (getD d (i * 64 + lowestBit word) 0)))
+      go true e = off-top i L (eqb-true word 0 e)
+      go false e = takes-word i (lowestBit word) li (lowest-bit word (omega (arith, eqb-false word 0 e)))
+
+  pub took : Took d s top (takenLow d (lead d s top)) (takenMid s (lead d s top)) (taken top (lead d s top))
+  unfolding lead
+  took = go (eqb top 0) refl (leb 32 i) refl
+    where
+      i : ℕ
+      i = lowestBit top
+
+      L : (top ≡ 0 → ⊥) → Lowest top i
+      L n = lowest-bit top (omega (arith, n))
+
+      go : (t : Bool) → eqb top 0 ≡ t → (u : Bool) → leb 32 i ≡ u → Takes (pick (either t u) nowhere (fromSummary d i (getD s i 0)))
+      go true e u f = nothing (eqb-true top 0 e)
+      go false e true f = absurd (omega (arith, leb-true 32 i f, lowest-below 32 top i (S .high) (L (eqb-false top 0 e))))
+      go false e false f = takes-summary i (leb-false 32 i f) (L (eqb-false top 0 e))
 
 -- all words 0: a sound set
 zeros : (n j : ℕ) → getD {A = ℕ} (replicate n 0) j 0 ≡ 0

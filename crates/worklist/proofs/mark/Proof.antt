@@ -1,11 +1,14 @@
 -- `worklist::mark` puts a slot in.
+use mathlib.Core.Path.{refl}
 use borrow.Author.Needs.{needs}
 use Rattle.worklist.proofs.mark.Statement.{statement}
 use Rattle.worklist.proofs.mark.Tie as tie
-use Rattle.worklist.proofs.Words.{unmarked, marked}
+use borrow.Author.Tests.{lt-ltb, le-ltb}
+use Rattle.worklist.specs.Set.{markedLow, markedMid, markedTop}
 
 returns : tie.Need-returns
-returns c = let a = c .before .args in λ S. unmarked (a .d .now) (a .s .now) (a .top) S (a .w) (c .if1 .taken)
+unfolding markedLow markedMid markedTop
+returns c = simp (le-ltb _ _ (c .if1 .taken)) (refl, (refl, refl))
 
 mul-d : tie.Need-mul-d
 mul-d c = search needs
@@ -41,9 +44,9 @@ one-requires-3 : tie.Need-one-requires-3
 one-requires-3 c κs = search needs
 
 returns-2 : tie.Need-returns-2
+unfolding markedLow markedMid markedTop
 returns-2 c =
-    let a = c .before .before .before .before .before .before .args in
-    λ S. rw (c .before .before .before .one .ensures, c .before .one2 .ensures, c .one3 .ensures) (marked (a .d .now) (a .s .now) (a .top) S (a .w) (c .before .before .before .before .before .if1 .left))
+    simp (c .before .before .before .one .ensures, c .before .one2 .ensures, c .one3 .ensures, lt-ltb _ _ (c .before .before .before .before .before .if1 .left)) (refl, (refl, refl))
 
 pub mark-spec : {M : Type 1} → statement M
 mark-spec =

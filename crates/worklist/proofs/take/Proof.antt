@@ -1,20 +1,21 @@
 -- `worklist::take` takes at most one slot out.
+use mathlib.Core.Path.{refl}
 use borrow.Author.Needs.{needs}
 use Rattle.worklist.proofs.take.Statement.{statement}
 use Rattle.worklist.proofs.take.Tie as tie
-use Prim.Native.Nat.{_+_, _*_}
-use Rattle.worklist.proofs.Words.{took-nothing, took-far, took-top, took-summary, took-slot}
+use borrow.Author.Tests.{eq-eqb, ne-eqb, le-leb, lt-leb}
+use Rattle.worklist.specs.Set.{fromWord, fromSummary, lead, takenLow, takenMid, taken}
 
 returns : tie.Need-returns
-returns c = let a = c .before .args in λ S. took-nothing (a .d .now) (a .s .now) (a .top) S (c .if1 .taken)
+unfolding fromWord fromSummary lead takenLow takenMid taken
+returns c = simp (eq-eqb _ _ (c .if1 .taken)) (refl, (refl, refl))
 
 lowest-requires : tie.Need-lowest-requires
 lowest-requires c κs = search needs
 
 returns-2 : tie.Need-returns-2
-returns-2 c =
-    let a = c .before .before .before .args in
-    λ S. took-far (a .d .now) (a .s .now) (a .top) S (c .before .lowest .result) (c .before .lowest .ensures .0) (c .if2 .taken)
+unfolding fromWord fromSummary lead takenLow takenMid taken
+returns-2 c = simp (ne-eqb _ _ (c .before .before .if1 .left), ← c .before .lowest .ensures .0, le-leb _ _ (c .if2 .taken)) (refl, (refl, refl))
 
 mul-si : tie.Need-mul-si
 mul-si c = search needs
@@ -29,10 +30,15 @@ sub-t16 : tie.Need-sub-t16
 sub-t16 c = search needs
 
 returns-3 : tie.Need-returns-3
+unfolding fromWord fromSummary lead takenLow takenMid taken
 returns-3 c =
-    let a = c .before .before .before .before .before .before .args in
-    let l = c .before .before .before .before .lowest in
-    λ S. took-top (a .d .now) (a .s .now) (a .top) S (l .result) (c .one .result) (l .ensures .0) (c .one .ensures) (c .before .if3 .taken)
+    simp (
+      ne-eqb _ _ (c .before .before .before .before .before .if1 .left),
+      ← c .before .before .before .before .lowest .ensures .0,
+      lt-leb _ _ (c .before .before .before .if2 .left),
+      eq-eqb _ _ (c .before .if3 .taken),
+      c .one .ensures,
+    ) (refl, (refl, refl))
 
 lowest-requires-2 : tie.Need-lowest-requires-2
 lowest-requires-2 c κs = search needs
@@ -62,11 +68,17 @@ element-write-s : tie.Need-element-write-s
 element-write-s c = search needs
 
 returns-4 : tie.Need-returns-4
+unfolding fromWord fromSummary lead takenLow takenMid taken
 returns-4 c =
-    let a = c .before .before .before .before .before .before .before .before .before .args in
-    let l = c .before .before .before .before .before .before .before .lowest in
-    let k = c .before .before .before .lowest2 in
-    λ S. took-summary (a .d .now) (a .s .now) (a .top) S (l .result) (k .result) (c .one2 .result) (c .before .before .before .before .before .before .if2 .left) (k .ensures .0) (c .one2 .ensures) (c .before .if4 .taken)
+    simp (
+      ne-eqb _ _ (c .before .before .before .before .before .before .before .before .if1 .left),
+      ← c .before .before .before .before .before .before .before .lowest .ensures .0,
+      lt-leb _ _ (c .before .before .before .before .before .before .if2 .left),
+      ne-eqb _ _ (c .before .before .before .before .if3 .left),
+      ← c .before .before .before .lowest2 .ensures .0,
+      eq-eqb _ _ (c .before .if4 .taken),
+      c .one2 .ensures,
+    ) (refl, (refl, refl))
 
 lowest-requires-3 : tie.Need-lowest-requires-3
 lowest-requires-3 c κs = search needs
@@ -90,12 +102,18 @@ add-t27 : tie.Need-add-t27
 add-t27 c = search needs
 
 returns-5 : tie.Need-returns-5
+unfolding fromWord fromSummary lead takenLow takenMid taken
 returns-5 c =
-    let a = c .before .before .before .before .before .before .before .before .before .before .args in
-    let l = c .before .before .before .before .before .before .before .before .lowest in
-    let k = c .before .before .before .before .lowest2 in
-    let b = c .before .lowest3 in
-    λ S. took-slot (a .d .now) (a .s .now) (a .top) S (l .result * 64 + k .result) (b .result) (c .one3 .result) (search needs) (b .ensures .1) (b .ensures .0) (c .one3 .ensures)
+    simp (
+      ne-eqb _ _ (c .before .before .before .before .before .before .before .before .before .if1 .left),
+      ← c .before .before .before .before .before .before .before .before .lowest .ensures .0,
+      lt-leb _ _ (c .before .before .before .before .before .before .before .if2 .left),
+      ne-eqb _ _ (c .before .before .before .before .before .if3 .left),
+      ← c .before .before .before .before .lowest2 .ensures .0,
+      ne-eqb _ _ (c .before .before .if4 .left),
+      ← c .before .lowest3 .ensures .0,
+      c .one3 .ensures,
+    ) (refl, (refl, refl))
 
 pub take-spec : {M : Type 1} → statement M
 take-spec =

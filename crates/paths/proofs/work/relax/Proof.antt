@@ -33,7 +33,9 @@ same-length : tie.Need-same-length
 same-length c = search needs
 
 returns-2 : tie.Need-returns-2
-returns-2 c = pushed (c .before .before .before .before .before .before .if1 .taken) (c .before .before .before .if3 .taken) (c .before .before .before .before .if2 .left) (c .mark .ensures)
+returns-2 c =
+    let E = c .mark .ensures in
+    rw (E .0, E .1 .0, E .1 .1) (pushed (c .before .before .before .before .before .before .if1 .taken) (c .before .before .before .if3 .taken) (c .before .before .before .before .if2 .left))
 
 same-length-2 : tie.Need-same-length-2
 same-length-2 c = search needs

@@ -20,7 +20,8 @@ run-requires : tie.Need-run-requires
 run-requires c κs =
     let s = c .before .before .before .before .before .before .before .before .before .before .before .before in
     let q = c .before .before .before .before .before .before .before .before .clear in
-    (simp length-set (omega (arith, q .kept .0, s .pre .1 .0)), began (s .args .code .now) (q .last .0) (q .kept .0 ∙ s .pre .0) (omega (arith, q .kept .0, s .pre .1 .0)) (q .ensures) (s .args .d .now) (s .args .s .now) (c .before .before .before .mark .ensures (s .pre .1 .1)))
+    let E = c .before .before .before .mark .ensures in
+    (simp length-set (omega (arith, q .kept .0, s .pre .1 .0)), rw (E .0, E .1 .0, E .1 .1) (began (s .args .code .now) (q .last .0) (q .kept .0 ∙ s .pre .0) (omega (arith, q .kept .0, s .pre .1 .0)) (q .ensures) (s .args .d .now) (s .args .s .now) (s .pre .1 .1)))
 
 ends-requires : tie.Need-ends-requires
 ends-requires c κs =
