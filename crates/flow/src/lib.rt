@@ -1,11 +1,11 @@
 // The flow of a unit's blocks: which are emitted, and which block a target means.
 ghost use mathlib.Core.Path.{_≡_};
-ghost use Prim.Native.Nat.{_+_, _*_, _≤_, _<_};
+ghost use Prim.Native.Nat.{_+_, _*_, _≤_, _<_, min};
 ghost use lib.ListN.{length, take, replicate};
 ghost use lib.Seq.{sets};
 ghost use Rattle.sort.specs.Order.{Ascending};
 ghost use Rattle.flow.specs.Linked.{numberFrom, numbers, linkedTargets, linkedFlags};
-ghost use Rattle.flow.specs.Keys.{keysFrom, Keyed, Cut};
+ghost use Rattle.flow.specs.Keys.{keysFrom, Keyed, Under, Over, Cut};
 ghost use Rattle.flow.specs.Way.{outs, Marked, marksOf};
 
 // The keys of the first n blocks: id * 1024 + number.
@@ -29,13 +29,63 @@ fn sort_keys(n: usize, ids: &[u32], keys: &mut [u64; 1024])
     sort::sort(keys, n);
 }
 
+// A guess of how many of the first n keys are below a bound: right where the ids follow each other without a gap.
+fn guess(keys: &[u64], n: usize, bound: u64) -> usize
+    requires { ⌜ n ≤ length (now keys) ⌝ }
+    ensures { λ r. ⌜ r ≤ n ⌝ }
+{
+    if n == 0 {
+        return 0;
+    }
+    let first = keys[0] / 1024;
+    let past = bound / 1024;
+    if past < first {
+        return 0;
+    }
+    least((past - first) as usize, n)
+}
+
+fn least(a: usize, b: usize) -> usize
+    ensures { λ r. ⌜ r ≡ min a b ⌝ }
+{
+    if a < b { a } else { b }
+}
+
+// At least so many keys are below the bound: the first p, if the last of them is.
+fn at_least(keys: &[u64], n: usize, bound: u64, p: usize) -> usize
+    requires { ⌜ (p ≤ n) × (n ≤ length (now keys)) × Ascending (take n (now keys)) ⌝ }
+    ensures { λ r. ⌜ (r ≤ p) × Under (take n (now (keys .entry))) bound r ⌝ }
+{
+    if p == 0 {
+        return 0;
+    }
+    if keys[p - 1] < bound {
+        return p;
+    }
+    0
+}
+
+// At most so many: the first p, if the one after them is not.
+fn at_most(keys: &[u64], n: usize, bound: u64, p: usize) -> usize
+    requires { ⌜ (p ≤ n) × (n ≤ length (now keys)) × Ascending (take n (now keys)) ⌝ }
+    ensures { λ r. ⌜ (p ≤ r) × (r ≤ n) × Over (take n (now (keys .entry))) bound r ⌝ }
+{
+    if p < n {
+        if bound <= keys[p] {
+            return p;
+        }
+    }
+    n
+}
+
 // How many of the first n keys, which ascend, are below a bound.
 fn below(keys: &[u64], n: usize, bound: u64) -> usize
     requires { ⌜ (n ≤ length (now keys)) × Ascending (take n (now keys)) ⌝ }
     ensures { λ r. ⌜ Cut (take n (now (keys .entry))) bound r ⌝ }
 {
-    let mut lo = 0;
-    let mut hi = n;
+    let p = guess(keys, n, bound);
+    let mut lo = at_least(keys, n, bound, p);
+    let mut hi = at_most(keys, n, bound, p);
     while lo < hi {
         let mid = lo + (hi - lo) / 2;
         if keys[mid] < bound {

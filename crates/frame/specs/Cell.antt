@@ -1,7 +1,7 @@
 -- Cells of the frame, 8 bytes each, from R10 down.
 use Prim.Native.Nat.{ℕ, suc, _+_, _*_, _%_}
 use mathlib.Core.List.{List, [], _∷_}
-use lib.Dec.{eqb}
+use lib.Dec.{eqb, ltb}
 use lib.IntN.{ℤ, negsuc}
 use lib.ListN.{length}
 use Rattle.wire.specs.Pick.{pick}
@@ -11,6 +11,10 @@ use Rattle.frame.specs.declared.Cell.the-variants.{At, Missing}
 -- cell i has the offset −8(i+1); the frame has 64 cells, and what would lie past the last counts from the first again
 unfoldable pub offsetOf : ℕ → ℤ
 offsetOf i = negsuc (8 * (i % 64) + 7)
+
+-- the cell of the variable at index i of n
+unfoldable pub cellAt : ℕ → ℕ → Cell
+cellAt n i = pick (ltb i n) (At (offsetOf i)) Missing
 
 -- the cell of a variable, by its place among the sorted variables, counted from i
 unfoldable pub cellFrom : ℕ → List ℕ → ℕ → Cell

@@ -1,14 +1,11 @@
--- The blocks by their numbers in file order, and what a value of `lower` tells. No public promise names these.
-use Prim.Native.Nat.{ℕ, suc, _+_}
+-- The blocks by their numbers in file order, and how many relocations operations make. No public promise names these.
 use mathlib.Core.Bool.{Bool}
-use mathlib.Core.List.{List, [], _∷_, _++_}
-use lib.ListN.{take}
+use mathlib.Core.List.{List, [], _∷_}
+use Prim.Native.Nat.{ℕ, suc, _+_}
 use Rattle.wire.specs.Pick.{pick}
-use Rattle.unitfile.specs.Unit.{BasicBlock}
 use Rattle.insn.specs.declared.Insn.{Insn}
-use Rattle.lower.specs.Op.{Op, Lowered, plain, map, ja, jne}
-use Rattle.lower.specs.Step.{all, mapOps}
-use Rattle.lower.specs.declared.Emitted.{Emitted}
+use Rattle.unitfile.specs.Unit.{BasicBlock}
+use Rattle.lower.specs.Op.{Op, plain, map, ja, jne}
 use Rattle.layout.specs.Layout.{Context, Laid, laid, scratchThrough, block, slots}
 
 -- the blocks whose number is marked, from number k on
@@ -28,14 +25,11 @@ unfoldable pub edges : Context → (ℕ → Bool) → ℕ → ℕ → ℕ → Li
 edges c e k j s [] = s ∷ []
 edges c e k j s (b ∷ bs) = s ∷ edges c e (suc k) (scratchBy (e k) j b) (s + slots (blockBy c (e k) j b)) bs
 
--- ---- what a lowered instruction's value holds: the load of a map's address where there is one, then instructions
+-- ---- plain instructions, as operations
 
 unfoldable pub plainOps : List Insn → List Op
 plainOps [] = []
 plainOps (i ∷ is) = plain i ∷ plainOps is
-
-unfoldable pub made : Emitted → Lowered
-made e = all (e .outcome) (mapOps (e .map) ++ plainOps (take (e .n) (e .list)))
 
 -- ---- how many relocations operations make
 

@@ -1,4 +1,5 @@
 pub mod Steps
 pub mod Range
 pub mod Compose
+pub mod Counts
 pub mod Pieces

@@ -1,4 +1,4 @@
--- The pieces of an instruction's code, each as the steps that make it.
+-- The pieces of an instruction's code, each as the instructions that make it.
 use mathlib.Core.Path.{_≡_, refl, sym, _∙_}
 use mathlib.Core.Bool.{Bool, true, false}
 use mathlib.Core.Logic.{_⊎_, inl, inr, ⊎-elim}
@@ -8,61 +8,85 @@ use native.Mathlib.Omega.{arith}
 use borrow.Author.Tests.{eqb-true, ne-eqb, eq-eqb}
 use lib.Dec.{eqb}
 use lib.IntN.{ℤ, pos}
-use lib.ListN.{length}
 use Rattle.wire.specs.Pick.{either}
+use Rattle.ir.specs.Few.{listOfFew}
 use Rattle.ir.specs.declared.BinaryOp.{BinaryOp}
 use Rattle.ir.specs.declared.Operand.{Operand}
 use Rattle.ir.specs.declared.Operand.the-variants.{Var, Immediate}
-use Rattle.insn.specs.Rfc.{ALU64, K, X, operationOf, aluByte}
+use Rattle.ir.specs.declared.few.Few.{Few}
+use Rattle.insn.specs.Rfc.{ALU64, K, X, operationOf, aluByte, sizeField}
 use Rattle.insn.specs.Form.{opcodeOf}
+use Rattle.insn.specs.declared.Insn.{Insn}
 use Rattle.insn.specs.declared.form.Size.the-variants.{Dw}
 use Rattle.insn.specs.declared.form.Form.the-variants.{Stx}
-use Rattle.frame.specs.Cell.{Frame}
-use Rattle.frame.specs.declared.Cell.{Cell}
-use Rattle.frame.specs.declared.Cell.the-variants.{At, Missing}
-use Rattle.lower.specs.Op.{Lowered, refused, insn, _▸_}
-use Rattle.lower.specs.Operand.{fits32, constant, move, add, call, onCell, load, addr, keep}
-use Rattle.lower.specs.Instruction.{operate, nullCheck, helperCall, onNone, onThree}
-use Rattle.lower.specs.Step.{one, withConstant}
+use Rattle.frame.specs.Cell.{Frame, frameOf}
+use Rattle.frame.specs.Hint.{frameBy}
+use Rattle.lower.specs.Op.{Lowered, becomes, refused, plain, insn, _▸_}
+use Rattle.lower.specs.Operand.{fits32, constant, move, add, call, load, addr, keep}
+use Rattle.lower.specs.Instruction.{operate, nullCheck, helperCall, onThree}
+use Rattle.lower.specs.Step.{one, withConstant, addrPut, addrTake, nullTest, nullZero, nullRest}
+use Rattle.lower.specs.declared.Reason.{Reason}
 use Rattle.lower.specs.declared.Reason.the-variants as Re
+use Rattle.lower.proofs.Compose.{assoc, nothing-first}
+use Rattle.lower.proofs.Counts.{few-none, few-some}
+
+-- ---- constants
+
+pub is-constant : (r : ℕ) (z : ℤ) → withConstant 0xb7 r z ≡ constant r z
+unfolding withConstant constant one insn opcodeOf
+is-constant r z = refl
 
 -- ---- addresses
 
-cell-address : (v r : ℕ) (cell : Cell) → (move r 10 ▸ onCell v cell (λ z. add r z)) ≡ onCell v cell (λ z. move r 10 ▸ add r z)
-unfolding _▸_ onCell move insn
-cell-address v r (At z) = refl
-cell-address v r Missing = refl
+pub cell-address : {i k : Insn} (r : ℕ) (cell : ℤ) → becomes (plain i ∷ []) ≡ move r 10 → becomes (plain k ∷ []) ≡ add r cell
+    → becomes (plain i ∷ plain k ∷ []) ≡ (move r 10 ▸ add r cell)
+unfolding _▸_
+cell-address r cell e f = rw (← e, ← f)
 
-pub addr-cell : (f : Frame) (j r : ℕ) {a : Operand} {v : ℕ} → a ≡ Var v → (move r 10 ▸ onCell v (f .cell v) (λ z. add r z)) ≡ addr f j r a
-unfolding addr
-addr-cell f j r {v = v} e = rw e (cell-address v r (f .cell v))
+module _ (r : ℕ) (z cell : ℤ) where
+  pub scratch-put : {h : Insn} → becomes (plain h ∷ []) ≡ constant r z
+      → becomes (plain h ∷ plain (record { code = 0x7b; dst = 10; src = r; off = cell; imm = pos 0 }) ∷ []) ≡ (constant r z ▸ insn (Stx Dw) 10 r cell (pos 0))
+  unfolding _▸_ insn opcodeOf sizeField
+  scratch-put e = rw (← e)
 
-pub addr-scratch : (f : Frame) (r : ℕ) {j k : ℕ} {a : Operand} {x z : ℤ} → k ≡ j → a ≡ Immediate z → x ≡ z
-    → (constant r x ▸ insn (Stx Dw) 10 r (f .scratch k) (pos 0) ▸ move r 10 ▸ add r (f .scratch k)) ≡ addr f j r a
-unfolding addr
-addr-scratch f r e t i = rw (e, t, i)
+  pub scratch-refused : {q : Reason} → refused q ≡ constant r z → refused q ≡ (constant r z ▸ insn (Stx Dw) 10 r cell (pos 0))
+  unfolding _▸_ insn
+  scratch-refused e = rw (← e)
+
+pub addr-parts : (f : Frame) (j r : ℕ) (o : Operand) → (addrPut f j r o ▸ addrTake f j r o) ≡ addr f j r o
+unfolding addrPut addrTake addr
+addr-parts f j r (Var v) = nothing-first _
+addr-parts f j r (Immediate z) = sym (assoc (constant r z ▸ insn (Stx Dw) 10 r (f .scratch j) (pos 0)) (move r 10) (add r (f .scratch j)))
+
+-- the scratch cells do not depend on the guesses
+pub same-scratch : (vs hs : List ℕ) (j r : ℕ) (o : Operand) → addrPut (frameOf vs) j r o ≡ addrPut (frameBy vs hs) j r o
+unfolding addrPut frameOf frameBy
+same-scratch vs hs j r (Var v) = refl
+same-scratch vs hs j r (Immediate z) = refl
+
+-- ---- NullCheck
+
+pub null-parts : (t : Bool) → (nullTest t ▸ nullZero t ▸ nullRest t) ≡ nullCheck t
+unfolding nullTest nullZero nullRest nullCheck constant fits32 insn _▸_
+null-parts true = refl
+null-parts false = refl
 
 -- ---- Binary's second operand
 
-module _ (f : Frame) (op : BinaryOp) {b : Operand} {code : ℕ} where
-  pub operate-constant : {x z : ℤ} → b ≡ Immediate z → code ≡ aluByte ALU64 K (operationOf op) → x ≡ z → withConstant code 0 x ≡ operate f op b
+module _ (f : Frame) (op : BinaryOp) {o : Operand} {code : ℕ} where
+  pub operate-constant : {x z : ℤ} → o ≡ Immediate z → code ≡ aluByte ALU64 K (operationOf op) → x ≡ z → withConstant code 0 x ≡ operate f op o
   unfolding operate withConstant insn opcodeOf one
-  operate-constant t e i = rw (t, e, i)
+  operate-constant e h i = rw (e, h, i)
 
-  pub operate-register : {v : ℕ} → b ≡ Var v → code ≡ aluByte ALU64 X (operationOf op) → (load f 1 b ▸ one code 0 1 (pos 0) (pos 0)) ≡ operate f op b
-  unfolding operate insn opcodeOf one
-  operate-register t e = rw (t, e)
+  pub operate-register : {v : ℕ} {i : Insn} → o ≡ Var v → becomes (plain i ∷ []) ≡ load f 1 o → code ≡ aluByte ALU64 X (operationOf op)
+      → becomes (plain i ∷ plain (record { code = code; dst = 0; src = 1; off = pos 0; imm = pos 0 }) ∷ []) ≡ operate f op o
+  unfolding operate _▸_ insn opcodeOf
+  operate-register e l h = rw e (rw (← (rw e at l), h))
 
--- ---- NullCheck's two forms
-
-pub null-branch : {t : Bool} → t ≡ true → (one 0x15 0 0 (pos 2) (pos 0) ▸ one 0xb7 0 0 (pos 0) (pos 1) ▸ one 0x05 0 0 (pos 1) (pos 0) ▸ one 0xb7 0 0 (pos 0) (pos 0)) ≡ nullCheck t
-unfolding nullCheck constant fits32 insn opcodeOf one
-null-branch e = rw e
-
-pub null-exit : {t : Bool} → t ≡ false
-    → (one 0x15 0 0 (pos 1) (pos 0) ▸ one 0x05 0 0 (pos 2) (pos 0) ▸ one 0xb7 0 0 (pos 0) (pos 0) ▸ one 0x95 0 0 (pos 0) (pos 0) ▸ one 0xb7 0 0 (pos 0) (pos 1)) ≡ nullCheck t
-unfolding nullCheck constant fits32 insn opcodeOf one
-null-exit e = rw e
+module _ (f : Frame) (op : BinaryOp) {o : Operand} where
+  pub operate-refused : {v : ℕ} {q : Reason} → o ≡ Var v → refused q ≡ load f 1 o → refused q ≡ operate f op o
+  unfolding operate _▸_ insn
+  operate-refused e l = rw e (rw (← (rw e at l)))
 
 -- ---- HelperCall
 
@@ -89,35 +113,26 @@ none-small id =
 pub three-small : (id : ℕ) → three id ≡ true → id < 128
 three-small id = either-small id (is-small id 114 (omega arith)) (is-small id 115 (omega arith))
 
-no-operands : (l : List Operand) (x : Lowered) → length l ≡ 0 → x ≡ onNone l x
-unfolding onNone
-no-operands [] x e = refl
-no-operands (a ∷ l) x e = absurd (omega arith)
-
-some-operands : (l : List Operand) (x : Lowered) → (length l ≡ 0 → ⊥) → refused (Re.Count (length l)) ≡ onNone l x
-unfolding onNone
-some-operands [] x n = absurd (n refl)
-some-operands (a ∷ l) x n = refl
-
--- t, u and n: what `takes_none`, `takes_three` and `count` answer
-module _ (f : Frame) (result id : ℕ) (l : List Operand) {t : Bool} (et : t ≡ none id) where
-  pub helper-none : {n : ℕ} → t ≡ true → n ≡ length l → n ≡ 0 → (call id ▸ keep f result) ≡ helperCall f result id l
+-- t and u: what `takes_none` and `takes_three` answer
+module _ (f : Frame) (result id : ℕ) (w : Few) {t : Bool} (et : t ≡ none id) where
+  pub helper-none : t ≡ true → w .count ≡ 0 → (call id ▸ keep f result) ≡ helperCall f result id (listOfFew w)
   unfolding helperCall
-  helper-none e en z = no-operands l (call id ▸ keep f result) (sym en ∙ z) ∙ rw (sym et ∙ e)
+  helper-none e z = few-none w (call id ▸ keep f result) z ∙ rw (sym et ∙ e)
 
-  pub helper-some : {n : ℕ} → t ≡ true → n ≡ length l → (n ≡ 0 → ⊥) → refused (Re.Count n) ≡ helperCall f result id l
+  pub helper-some : t ≡ true → (w .count ≡ 0 → ⊥) → refused (Re.Count (w .count)) ≡ helperCall f result id (listOfFew w)
   unfolding helperCall
-  helper-some e en z = rw (en, sym et ∙ e) (some-operands l (call id ▸ keep f result) (λ (h : length l ≡ 0). z (en ∙ h)))
+  helper-some e z = few-some w (call id ▸ keep f result) z ∙ rw (sym et ∙ e)
 
-  pub helper-16 : t ≡ false → id ≡ 16 → refused Re.Helper16 ≡ helperCall f result id l
+  pub helper-16 : t ≡ false → id ≡ 16 → refused Re.Helper16 ≡ helperCall f result id (listOfFew w)
   unfolding helperCall
   helper-16 e h = rw (sym et ∙ e, eq-eqb id 16 h)
 
   module _ {u : Bool} (e : t ≡ false) (h : id ≡ 16 → ⊥) (eu : u ≡ three id) where
-    pub helper-three : u ≡ true → onThree l (λ a b c. load f 1 a ▸ load f 2 b ▸ load f 3 c ▸ call id ▸ keep f result) ≡ helperCall f result id l
+    pub helper-three : u ≡ true
+        → onThree (listOfFew w) (λ a b c. load f 1 a ▸ load f 2 b ▸ load f 3 c ▸ call id ▸ keep f result) ≡ helperCall f result id (listOfFew w)
     unfolding helperCall
     helper-three k = rw (sym et ∙ e, ne-eqb id 16 h, sym eu ∙ k)
 
-    pub helper-other : u ≡ false → refused (Re.Helper id) ≡ helperCall f result id l
+    pub helper-other : u ≡ false → refused (Re.Helper id) ≡ helperCall f result id (listOfFew w)
     unfolding helperCall
     helper-other k = rw (sym et ∙ e, ne-eqb id 16 h, sym eu ∙ k)

@@ -2,5 +2,6 @@ pub mod Op
 pub mod Operand
 pub mod Instruction
 pub mod Terminator
+pub mod Put
 pub mod Held
 pub mod Step

@@ -1,14 +1,21 @@
--- One instruction that may be refused, and values of several.
-use Prim.Native.Nat.{ℕ}
+-- One instruction that may be refused, pieces of several, and what putting them leaves.
+use Prim.Native.Nat.{ℕ, _+_, _*_, _≤_}
+use mathlib.Core.Path.{_≡_}
+use mathlib.Core.Bool.{Bool, true, false}
 use mathlib.Core.List.{List, [], _∷_}
 use lib.IntN.{ℤ, pos}
 use lib.ListN.{length}
 use Rattle.wire.specs.Pick.{pick}
 use Rattle.ir.specs.declared.Operand.{Operand}
+use Rattle.ir.specs.declared.Operand.the-variants.{Var, Immediate}
 use Rattle.insn.specs.declared.Insn.{Insn}
-use Rattle.lower.specs.Op.{Op, plain, map, Lowered, becomes, refused}
-use Rattle.lower.specs.Operand.{fits32}
-use Rattle.lower.specs.Held.{zeros}
+use Rattle.insn.specs.declared.form.Size.the-variants.{Dw}
+use Rattle.insn.specs.declared.form.Form.the-variants.{Stx, Ja, JeqImm, Exit}
+use Rattle.frame.specs.Cell.{Frame}
+use Rattle.lower.specs.Op.{Op, plain, map, Lowered, becomes, refused, insn, slotsOf, _▸_}
+use Rattle.lower.specs.Operand.{fits32, constant, move, add, onCell}
+use Rattle.lower.specs.Put.{insnsIn, putAt, putLowered}
+use Rattle.lower.specs.Held.{mapIn, held}
 use Rattle.lower.specs.declared.Reason.the-variants as Re
 use Rattle.lower.specs.declared.Outcome.{Outcome}
 use Rattle.lower.specs.declared.Outcome.the-variants.{Fine, Refused}
@@ -16,12 +23,11 @@ use Rattle.lower.specs.declared.MapUse.{MapUse}
 use Rattle.lower.specs.declared.MapUse.the-variants as M
 use Rattle.lower.specs.declared.Emitted.{Emitted}
 use Rattle.lower.specs.declared.operand.Step.{Step}
-use Rattle.lower.specs.declared.count.Two.{Two}
-use Rattle.lower.specs.declared.count.Two.the-variants as T
-use Rattle.lower.specs.declared.count.Three.{Three}
-use Rattle.lower.specs.declared.count.Three.the-variants as H
+use Rattle.lower.specs.declared.operand.Step.the-variants as S
+use Rattle.lower.specs.declared.operand.Piece.{Piece}
+use Rattle.lower.specs.declared.operand.Piece.the-variants as P
 
--- ---- steps
+-- ---- steps and pieces
 
 -- operations, where nothing of them is refused
 unfoldable pub all : Outcome → List Op → Lowered
@@ -30,7 +36,24 @@ all (Refused r) l = refused r
 
 -- what a step becomes
 unfoldable pub stepOf : Step → Lowered
-stepOf s = all (s .outcome) (plain (s .insn) ∷ [])
+stepOf (S.Is i) = becomes (plain i ∷ [])
+stepOf (S.Refused r) = refused r
+
+-- what a piece becomes: its refusal, its operations
+unfoldable pub outcomeOf : Piece → Outcome
+outcomeOf (P.Refused r) = Refused r
+outcomeOf P.Nothing = Fine
+outcomeOf (P.One a) = Fine
+outcomeOf (P.Two a b) = Fine
+
+unfoldable pub opsOf : Piece → List Op
+opsOf (P.Refused r) = []
+opsOf P.Nothing = []
+opsOf (P.One a) = plain a ∷ []
+opsOf (P.Two a b) = plain a ∷ plain b ∷ []
+
+unfoldable pub pieceOf : Piece → Lowered
+pieceOf p = all (outcomeOf p) (opsOf p)
 
 unfoldable pub one : ℕ → ℕ → ℕ → ℤ → ℤ → Lowered
 one code dst src off imm = becomes (plain (record { code = code; dst = dst; src = src; off = off; imm = imm }) ∷ [])
@@ -39,7 +62,29 @@ one code dst src off imm = becomes (plain (record { code = code; dst = dst; src 
 unfoldable pub withConstant : ℕ → ℕ → ℤ → Lowered
 withConstant code r z = pick (fits32 z) (one code r 0 (pos 0) z) (refused (Re.Immediate z))
 
--- ---- values of several
+-- "addr r" in two: an immediate put into scratch, and the address taken
+unfoldable pub addrPut : Frame → ℕ → ℕ → Operand → Lowered
+addrPut f j r (Var v) = becomes []
+addrPut f j r (Immediate z) = constant r z ▸ insn (Stx Dw) 10 r (f .scratch j) (pos 0)
+
+unfoldable pub addrTake : Frame → ℕ → ℕ → Operand → Lowered
+addrTake f j r (Var v) = onCell v (f .cell v) (λ cell. move r 10 ▸ add r cell)
+addrTake f j r (Immediate z) = move r 10 ▸ add r (f .scratch j)
+
+-- NullCheck in three: the test, what is done where R0 is 0, and the rest
+unfoldable pub nullTest : Bool → Lowered
+nullTest true = insn JeqImm 0 0 (pos 2) (pos 0) ▸ constant 0 (pos 1)
+nullTest false = insn JeqImm 0 0 (pos 1) (pos 0) ▸ insn Ja 0 0 (pos 2) (pos 0)
+
+unfoldable pub nullZero : Bool → Lowered
+nullZero true = insn Ja 0 0 (pos 1) (pos 0) ▸ constant 0 (pos 0)
+nullZero false = constant 0 (pos 0) ▸ insn Exit 0 0 (pos 0) (pos 0)
+
+unfoldable pub nullRest : Bool → Lowered
+nullRest true = becomes []
+nullRest false = constant 0 (pos 1)
+
+-- ---- pieces one after the other
 
 -- the first refusal of two
 unfoldable pub firstOf : Outcome → Outcome → Outcome
@@ -51,23 +96,19 @@ unfoldable pub mapOps : MapUse → List Op
 mapOps M.Nothing = []
 mapOps (M.Map m) = map m ∷ []
 
--- n instructions, or a refusal
-unfoldable pub finished : Outcome → MapUse → List Insn → ℕ → Emitted
-finished Fine m list n = record { outcome = Fine; map = m; list = list; n = n }
-finished (Refused r) m list n = record { outcome = Refused r; map = M.Nothing; list = zeros 11; n = 0 }
+-- b is b₀ with the instructions of l from `at` on, which fill so many slots
+pub record Holds (b₀ : List ℕ) (at : ℕ) (l : List Op) (b : List ℕ) (slots : ℕ) : Type 0 where
+  pub code : b ≡ putAt b₀ at (insnsIn l)
+  pub filled : slots ≡ slotsOf l
+  pub even : length (insnsIn l) ≡ slotsOf l
 
--- ---- counts
+-- the piece p put from a slot on, and the slot after it
+pub record PutPiece (b₀ : List ℕ) (at slot : ℕ) (p : Piece) (b : List ℕ) (after : ℕ) : Type 0 where
+  pub code : b ≡ putAt b₀ (at + 8 * slot) (insnsIn (opsOf p))
+  pub next : after ≡ slot + slotsOf (opsOf p)
+  pub most : after ≤ slot + 2
 
--- two operands, or how many there are
-unfoldable pub twoOf : List Operand → Two
-twoOf [] = T.Not 0
-twoOf (a ∷ []) = T.Not 1
-twoOf (a ∷ b ∷ []) = T.Are a b
-twoOf (a ∷ b ∷ c ∷ rest) = T.Not (length (a ∷ b ∷ c ∷ rest))
-
-unfoldable pub threeOf : List Operand → Three
-threeOf [] = H.Not 0
-threeOf (a ∷ []) = H.Not 1
-threeOf (a ∷ b ∷ []) = H.Not 2
-threeOf (a ∷ b ∷ c ∷ []) = H.Are a b c
-threeOf (a ∷ b ∷ c ∷ d ∷ rest) = H.Not (length (a ∷ b ∷ c ∷ d ∷ rest))
+-- what x becomes is put from `at` on, and told
+pub record Puts (b₀ : List ℕ) (at : ℕ) (x : Lowered) (b : List ℕ) (e : Emitted) : Type 0 where
+  pub code : b ≡ putLowered b₀ at x
+  pub answer : e ≡ held x

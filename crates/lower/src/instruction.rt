@@ -1,137 +1,169 @@
-// What each opcode becomes, in 01's order: the count of operands, then step by step.
+// What each opcode becomes, in 01's order: the count of operands, then piece by piece.
 use crate::Emitted;
 use crate::MapUse;
 use crate::Reason;
-use crate::count;
-use crate::count::Three;
-use crate::count::Two;
 use crate::list;
-use crate::operand::add_cell;
-use crate::operand::add_scratch;
+use crate::operand::call_update;
 use crate::operand::constant;
+use crate::operand::context_address;
 use crate::operand::keep;
 use crate::operand::load;
 use crate::operand::load_context;
 use crate::operand::next;
+use crate::operand::null_rest;
+use crate::operand::null_test;
+use crate::operand::null_zero;
+use crate::operand::operate;
 use crate::operand::plain;
+use crate::operand::put_scratch;
 use crate::operand::store;
-use crate::operand::store_scratch;
-use crate::operand::with_constant;
+use crate::operand::take_addr;
 use insn::BPF_CALL;
-use insn::BPF_EXIT;
-use insn::BPF_JA;
-use insn::BPF_JEQ_IMM;
 use insn::BPF_MOV64_IMM;
-use insn::BPF_MOV64_REG;
 use insn::R0;
 use insn::R1;
 use insn::R2;
 use insn::R3;
-use insn::R4;
-use insn::R6;
-use insn::R10;
 use ir::BinaryOp;
-use ir::Operand;
-use ir::operands;
-use ir::operands::Head;
-use ir::operands::Operands;
+use ir::few::Few;
 ghost use mathlib.Core.Bool.{false};
-ghost use mathlib.Core.List.{[], _∷_};
+ghost use mathlib.Core.List.{[]};
 ghost use mathlib.Core.Path.{_≡_};
 ghost use lib.Dec.{eqb};
 ghost use Rattle.wire.specs.Pick.{either};
-ghost use Rattle.ir.specs.Operands.{listOf};
+ghost use Rattle.ir.specs.Few.{listOfFew};
 ghost use Rattle.ir.specs.declared.Opcode.the-variants as C;
-ghost use Rattle.frame.specs.Cell.{frameOf};
-ghost use Rattle.lower.specs.Held.{held};
+ghost use Rattle.frame.specs.Hint.{frameBy};
 ghost use Rattle.lower.specs.Instruction.{opcode, fromContext, helperCall};
+ghost use Rattle.lower.specs.Step.{Puts};
 
 // ---- alu
 
-pub fn binary(variables: &[u32], result: u32, op: BinaryOp, list: Operands) -> Emitted
-    ensures { λ r. ⌜ r ≡ held (opcode (frameOf (now (variables .entry))) 0 false result (C.Binary op) (listOf list)) ⌝ }
+pub fn binary(
+    code: &mut [u8],
+    at: usize,
+    variables: &[u32],
+    hints: &[u8; 256],
+    result: u32,
+    op: BinaryOp,
+    few: Few,
+) -> Emitted
+    ensures { λ r. ⌜ Puts (now (code .entry)) at (opcode (frameBy (now (variables .entry)) (now (hints .entry))) 0 false result (C.Binary op) (listOfFew few)) (now (code .exit)) r ⌝ }
 {
-    match count::exactly_two(list) {
-        Two::Not(n) => list::refused(Reason::Count(n)),
-        Two::Are(a, b) => {
-            let left = load(variables, R0, a);
-            let kept = keep(variables, result);
-            match b {
-                Operand::Immediate(z) => {
-                    let with = with_constant(insn::alu64_imm(op), R0, z);
-                    list::three(MapUse::Nothing, left, with, kept)
-                }
-                Operand::Var(_) => {
-                    let right = load(variables, R1, b);
-                    let with = plain(insn::alu64_reg(op), R0, R1, 0, 0);
-                    list::four(MapUse::Nothing, left, right, with, kept)
-                }
-            }
-        }
+    let a = few.a;
+    let b = few.b;
+    let n = few.count;
+    if n != 2 {
+        return list::refused(Reason::Count(n));
     }
+    list::three(
+        code,
+        at,
+        MapUse::Nothing,
+        load(variables, hints, R0, a),
+        operate(variables, hints, op, b),
+        keep(variables, hints, result),
+    )
 }
 
 // ---- memory
 
-pub fn load_key(variables: &[u32], result: u32, list: Operands) -> Emitted
-    ensures { λ r. ⌜ r ≡ held (opcode (frameOf (now (variables .entry))) 0 false result C.LoadKey (listOf list)) ⌝ }
+pub fn load_key(
+    code: &mut [u8],
+    at: usize,
+    variables: &[u32],
+    hints: &[u8; 256],
+    result: u32,
+    few: Few,
+) -> Emitted
+    ensures { λ r. ⌜ Puts (now (code .entry)) at (opcode (frameBy (now (variables .entry)) (now (hints .entry))) 0 false result C.LoadKey (listOfFew few)) (now (code .exit)) r ⌝ }
 {
-    match operands::first(list) {
-        Head::Nothing => list::refused(Reason::Count(0)),
-        Head::Is(a) => list::three(
-            MapUse::Nothing,
-            load(variables, R1, a),
-            plain(0x79, R0, R1, 0, 0),
-            keep(variables, result),
-        ),
+    let a = few.a;
+    if few.count == 0 {
+        return list::refused(Reason::Count(0));
     }
+    list::three(
+        code,
+        at,
+        MapUse::Nothing,
+        load(variables, hints, R1, a),
+        plain(0x79, R0, R1, 0, 0),
+        keep(variables, hints, result),
+    )
 }
 
-pub fn store_value(variables: &[u32], size: u8, list: Operands) -> Emitted
-    ensures { λ r. ⌜ r ≡ held (opcode (frameOf (now (variables .entry))) 0 false 0 (C.Store size) (listOf list)) ⌝ }
+pub fn store_value(
+    code: &mut [u8],
+    at: usize,
+    variables: &[u32],
+    hints: &[u8; 256],
+    size: u8,
+    few: Few,
+) -> Emitted
+    ensures { λ r. ⌜ Puts (now (code .entry)) at (opcode (frameBy (now (variables .entry)) (now (hints .entry))) 0 false 0 (C.Store size) (listOfFew few)) (now (code .exit)) r ⌝ }
 {
-    match count::exactly_two(list) {
-        Two::Not(n) => list::refused(Reason::Count(n)),
-        Two::Are(a, b) => list::three(
-            MapUse::Nothing,
-            load(variables, R1, a),
-            load(variables, R2, b),
-            store(size),
-        ),
+    let a = few.a;
+    let b = few.b;
+    let n = few.count;
+    if n != 2 {
+        return list::refused(Reason::Count(n));
     }
+    list::three(
+        code,
+        at,
+        MapUse::Nothing,
+        load(variables, hints, R1, a),
+        load(variables, hints, R2, b),
+        store(size),
+    )
 }
 
-pub fn from_context(variables: &[u32], result: u32, offset: i32, size: u8) -> Emitted
-    ensures { λ r. ⌜ r ≡ held (fromContext (frameOf (now (variables .entry))) result offset size) ⌝ }
+pub fn from_context(
+    code: &mut [u8],
+    at: usize,
+    variables: &[u32],
+    hints: &[u8; 256],
+    result: u32,
+    offset: i32,
+    size: u8,
+) -> Emitted
+    ensures { λ r. ⌜ Puts (now (code .entry)) at (fromContext (frameBy (now (variables .entry)) (now (hints .entry))) result offset size) (now (code .exit)) r ⌝ }
 {
     list::two(
+        code,
+        at,
         MapUse::Nothing,
         load_context(offset, size),
-        keep(variables, result),
+        keep(variables, hints, result),
     )
 }
 
 pub fn copy_context(
+    code: &mut [u8],
+    at: usize,
     variables: &[u32],
+    hints: &[u8; 256],
     result: u32,
     offset: i32,
     size: u32,
-    list: Operands,
+    few: Few,
 ) -> Emitted
-    ensures { λ r. ⌜ r ≡ held (opcode (frameOf (now (variables .entry))) 0 false result (C.CopyCtxToMem offset size) (listOf list)) ⌝ }
+    ensures { λ r. ⌜ Puts (now (code .entry)) at (opcode (frameBy (now (variables .entry)) (now (hints .entry))) 0 false result (C.CopyCtxToMem offset size) (listOfFew few)) (now (code .exit)) r ⌝ }
 {
-    match operands::first(list) {
-        Head::Nothing => list::refused(Reason::Count(0)),
-        Head::Is(a) => list::six(
-            MapUse::Nothing,
-            load(variables, R1, a),
-            constant(R2, size as i64),
-            plain(BPF_MOV64_REG, R3, R6, 0, 0),
-            plain(0x07, R3, 0, 0, offset),
-            plain(BPF_CALL, 0, 0, 0, 113),
-            keep(variables, result),
-        ),
+    let a = few.a;
+    if few.count == 0 {
+        return list::refused(Reason::Count(0));
     }
+    list::five(
+        code,
+        at,
+        MapUse::Nothing,
+        load(variables, hints, R1, a),
+        constant(R2, size as i64),
+        context_address(offset),
+        plain(BPF_CALL, 0, 0, 0, 113),
+        keep(variables, hints, result),
+    )
 }
 
 // ---- helpers
@@ -159,218 +191,188 @@ fn takes_three(id: u32) -> bool
     }
 }
 
-pub fn helper_call(variables: &[u32], result: u32, id: u32, list: Operands) -> Emitted
-    ensures { λ r. ⌜ r ≡ held (helperCall (frameOf (now (variables .entry))) result id (listOf list)) ⌝ }
+pub fn helper_call(
+    code: &mut [u8],
+    at: usize,
+    variables: &[u32],
+    hints: &[u8; 256],
+    result: u32,
+    id: u32,
+    few: Few,
+) -> Emitted
+    ensures { λ r. ⌜ Puts (now (code .entry)) at (helperCall (frameBy (now (variables .entry)) (now (hints .entry))) result id (listOfFew few)) (now (code .exit)) r ⌝ }
 {
+    let a = few.a;
+    let b = few.b;
+    let c = few.c;
+    let n = few.count;
     if takes_none(id) {
-        let n = operands::count(list);
-        if n == 0 {
-            return list::two(
-                MapUse::Nothing,
-                plain(BPF_CALL, 0, 0, 0, id as i32),
-                keep(variables, result),
-            );
+        if n != 0 {
+            return list::refused(Reason::Count(n));
         }
-        return list::refused(Reason::Count(n));
+        return list::two(
+            code,
+            at,
+            MapUse::Nothing,
+            plain(BPF_CALL, 0, 0, 0, id as i32),
+            keep(variables, hints, result),
+        );
     }
     if id == 16 {
         return list::refused(Reason::Helper16);
     }
     if takes_three(id) {
-        return match count::exactly_three(list) {
-            Three::Not(n) => list::refused(Reason::Count(n)),
-            Three::Are(a, b, c) => list::five(
-                MapUse::Nothing,
-                load(variables, R1, a),
-                load(variables, R2, b),
-                load(variables, R3, c),
-                plain(BPF_CALL, 0, 0, 0, id as i32),
-                keep(variables, result),
-            ),
-        };
+        if n != 3 {
+            return list::refused(Reason::Count(n));
+        }
+        return list::five(
+            code,
+            at,
+            MapUse::Nothing,
+            load(variables, hints, R1, a),
+            load(variables, hints, R2, b),
+            load(variables, hints, R3, c),
+            plain(BPF_CALL, 0, 0, 0, id as i32),
+            keep(variables, hints, result),
+        );
     }
     list::refused(Reason::Helper(id))
 }
 
 // ---- maps
 
-pub fn call_map(variables: &[u32], j: u8, result: u32, map: u32, list: Operands) -> Emitted
-    ensures { λ r. ⌜ r ≡ held (opcode (frameOf (now (variables .entry))) j false result (C.CallMap map) (listOf list)) ⌝ }
-{
-    match operands::first(list) {
-        Head::Nothing => list::refused(Reason::Count(0)),
-        Head::Is(a) => {
-            let from = plain(BPF_MOV64_REG, R2, R10, 0, 0);
-            let call = plain(BPF_CALL, 0, 0, 0, 1);
-            let kept = keep(variables, result);
-            match a {
-                Operand::Var(v) => {
-                    let cell = add_cell(variables, R2, v);
-                    list::four(MapUse::Map(map), from, cell, call, kept)
-                }
-                Operand::Immediate(z) => list::six(
-                    MapUse::Map(map),
-                    constant(R2, z),
-                    store_scratch(variables, j, R2),
-                    from,
-                    add_scratch(variables, j, R2),
-                    call,
-                    kept,
-                ),
-            }
-        }
-    }
-}
-
-// UpdateMap whose key is a variable, and whose key is an immediate.
-fn update_from_cell(variables: &[u32], j: u8, result: u32, map: u32, v: u32, b: Operand) -> Emitted
-    ensures { λ r. ⌜ r ≡ held (opcode (frameOf (now (variables .entry))) j false result (C.UpdateMap map) (Operand.Var v ∷ b ∷ [])) ⌝ }
-{
-    let from = plain(BPF_MOV64_REG, R2, R10, 0, 0);
-    let cell = add_cell(variables, R2, v);
-    let then = plain(BPF_MOV64_REG, R3, R10, 0, 0);
-    let flags = plain(BPF_MOV64_IMM, R4, 0, 0, 0);
-    let call = plain(BPF_CALL, 0, 0, 0, 2);
-    let kept = keep(variables, result);
-    match b {
-        Operand::Var(w) => list::seven(
-            MapUse::Map(map),
-            from,
-            cell,
-            then,
-            add_cell(variables, R3, w),
-            flags,
-            call,
-            kept,
-        ),
-        Operand::Immediate(y) => list::nine(
-            MapUse::Map(map),
-            from,
-            cell,
-            constant(R3, y),
-            store_scratch(variables, j, R3),
-            then,
-            add_scratch(variables, j, R3),
-            flags,
-            call,
-            kept,
-        ),
-    }
-}
-
-fn update_from_scratch(
+pub fn call_map(
+    code: &mut [u8],
+    at: usize,
     variables: &[u32],
+    hints: &[u8; 256],
     j: u8,
     result: u32,
     map: u32,
-    z: i64,
-    b: Operand,
+    few: Few,
 ) -> Emitted
-    ensures { λ r. ⌜ r ≡ held (opcode (frameOf (now (variables .entry))) j false result (C.UpdateMap map) (Operand.Immediate z ∷ b ∷ [])) ⌝ }
+    ensures { λ r. ⌜ Puts (now (code .entry)) at (opcode (frameBy (now (variables .entry)) (now (hints .entry))) j false result (C.CallMap map) (listOfFew few)) (now (code .exit)) r ⌝ }
 {
-    let key = constant(R2, z);
-    let put = store_scratch(variables, j, R2);
-    let from = plain(BPF_MOV64_REG, R2, R10, 0, 0);
-    let cell = add_scratch(variables, j, R2);
-    let then = plain(BPF_MOV64_REG, R3, R10, 0, 0);
-    let flags = plain(BPF_MOV64_IMM, R4, 0, 0, 0);
-    let call = plain(BPF_CALL, 0, 0, 0, 2);
-    let kept = keep(variables, result);
-    match b {
-        Operand::Var(w) => list::nine(
-            MapUse::Map(map),
-            key,
-            put,
-            from,
-            cell,
-            then,
-            add_cell(variables, R3, w),
-            flags,
-            call,
-            kept,
-        ),
-        Operand::Immediate(y) => {
-            let k = next(j, Operand::Immediate(z));
-            list::eleven(
-                MapUse::Map(map),
-                key,
-                put,
-                from,
-                cell,
-                constant(R3, y),
-                store_scratch(variables, k, R3),
-                then,
-                add_scratch(variables, k, R3),
-                flags,
-                call,
-                kept,
-            )
-        }
+    let a = few.a;
+    if few.count == 0 {
+        return list::refused(Reason::Count(0));
     }
+    list::four(
+        code,
+        at,
+        MapUse::Map(map),
+        put_scratch(variables, j, R2, a),
+        take_addr(variables, hints, j, R2, a),
+        plain(BPF_CALL, 0, 0, 0, 1),
+        keep(variables, hints, result),
+    )
 }
 
-pub fn update_map(variables: &[u32], j: u8, result: u32, map: u32, list: Operands) -> Emitted
-    ensures { λ r. ⌜ r ≡ held (opcode (frameOf (now (variables .entry))) j false result (C.UpdateMap map) (listOf list)) ⌝ }
+pub fn update_map(
+    code: &mut [u8],
+    at: usize,
+    variables: &[u32],
+    hints: &[u8; 256],
+    j: u8,
+    result: u32,
+    map: u32,
+    few: Few,
+) -> Emitted
+    ensures { λ r. ⌜ Puts (now (code .entry)) at (opcode (frameBy (now (variables .entry)) (now (hints .entry))) j false result (C.UpdateMap map) (listOfFew few)) (now (code .exit)) r ⌝ }
 {
-    match count::exactly_two(list) {
-        Two::Not(n) => list::refused(Reason::Count(n)),
-        Two::Are(a, b) => match a {
-            Operand::Var(v) => update_from_cell(variables, j, result, map, v, b),
-            Operand::Immediate(z) => update_from_scratch(variables, j, result, map, z, b),
-        },
+    let a = few.a;
+    let b = few.b;
+    let n = few.count;
+    if n != 2 {
+        return list::refused(Reason::Count(n));
     }
+    let k = next(j, a);
+    list::six(
+        code,
+        at,
+        MapUse::Map(map),
+        put_scratch(variables, j, R2, a),
+        take_addr(variables, hints, j, R2, a),
+        put_scratch(variables, k, R3, b),
+        take_addr(variables, hints, k, R3, b),
+        call_update(),
+        keep(variables, hints, result),
+    )
 }
 
-pub fn reserve(variables: &[u32], result: u32, map: u32, size: u32) -> Emitted
-    ensures { λ r. ⌜ r ≡ held (opcode (frameOf (now (variables .entry))) 0 false result (C.RingBufReserve map size) (listOf Operands.Zero)) ⌝ }
+pub fn reserve(
+    code: &mut [u8],
+    at: usize,
+    variables: &[u32],
+    hints: &[u8; 256],
+    result: u32,
+    map: u32,
+    size: u32,
+) -> Emitted
+    ensures { λ r. ⌜ Puts (now (code .entry)) at (opcode (frameBy (now (variables .entry)) (now (hints .entry))) 0 false result (C.RingBufReserve map size) []) (now (code .exit)) r ⌝ }
 {
     list::four(
+        code,
+        at,
         MapUse::Map(map),
         constant(R2, size as i64),
         plain(BPF_MOV64_IMM, R3, 0, 0, 0),
         plain(BPF_CALL, 0, 0, 0, 131),
-        keep(variables, result),
+        keep(variables, hints, result),
     )
 }
 
-pub fn submit(variables: &[u32], result: u32, list: Operands) -> Emitted
-    ensures { λ r. ⌜ r ≡ held (opcode (frameOf (now (variables .entry))) 0 false result (C.RingBufSubmit 0) (listOf list)) ⌝ }
+pub fn submit(
+    code: &mut [u8],
+    at: usize,
+    variables: &[u32],
+    hints: &[u8; 256],
+    result: u32,
+    few: Few,
+) -> Emitted
+    ensures { λ r. ⌜ Puts (now (code .entry)) at (opcode (frameBy (now (variables .entry)) (now (hints .entry))) 0 false result (C.RingBufSubmit 0) (listOfFew few)) (now (code .exit)) r ⌝ }
 {
-    match operands::first(list) {
-        Head::Nothing => list::refused(Reason::Count(0)),
-        Head::Is(a) => list::five(
-            MapUse::Nothing,
-            load(variables, R1, a),
-            plain(BPF_MOV64_IMM, R2, 0, 0, 0),
-            plain(BPF_CALL, 0, 0, 0, 132),
-            plain(BPF_MOV64_IMM, R0, 0, 0, 0),
-            keep(variables, result),
-        ),
+    let a = few.a;
+    if few.count == 0 {
+        return list::refused(Reason::Count(0));
     }
+    list::five(
+        code,
+        at,
+        MapUse::Nothing,
+        load(variables, hints, R1, a),
+        plain(BPF_MOV64_IMM, R2, 0, 0, 0),
+        plain(BPF_CALL, 0, 0, 0, 132),
+        plain(BPF_MOV64_IMM, R0, 0, 0, 0),
+        keep(variables, hints, result),
+    )
 }
 
 // ---- checks
 
-pub fn null_check(variables: &[u32], condition: bool, result: u32, list: Operands) -> Emitted
-    ensures { λ r. ⌜ r ≡ held (opcode (frameOf (now (variables .entry))) 0 condition result C.NullCheck (listOf list)) ⌝ }
+pub fn null_check(
+    code: &mut [u8],
+    at: usize,
+    variables: &[u32],
+    hints: &[u8; 256],
+    condition: bool,
+    result: u32,
+    few: Few,
+) -> Emitted
+    ensures { λ r. ⌜ Puts (now (code .entry)) at (opcode (frameBy (now (variables .entry)) (now (hints .entry))) 0 condition result C.NullCheck (listOfFew few)) (now (code .exit)) r ⌝ }
 {
-    match operands::first(list) {
-        Head::Nothing => list::refused(Reason::Count(0)),
-        Head::Is(a) => {
-            let loaded = load(variables, R0, a);
-            let zero = plain(BPF_MOV64_IMM, R0, 0, 0, 0);
-            let one = plain(BPF_MOV64_IMM, R0, 0, 0, 1);
-            let kept = keep(variables, result);
-            if condition {
-                let null = plain(BPF_JEQ_IMM, R0, 0, 2, 0);
-                let over = plain(BPF_JA, 0, 0, 1, 0);
-                list::six(MapUse::Nothing, loaded, null, one, over, zero, kept)
-            } else {
-                let null = plain(BPF_JEQ_IMM, R0, 0, 1, 0);
-                let over = plain(BPF_JA, 0, 0, 2, 0);
-                let exit = plain(BPF_EXIT, 0, 0, 0, 0);
-                list::seven(MapUse::Nothing, loaded, null, over, zero, exit, one, kept)
-            }
-        }
+    let a = few.a;
+    if few.count == 0 {
+        return list::refused(Reason::Count(0));
     }
+    list::five(
+        code,
+        at,
+        MapUse::Nothing,
+        load(variables, hints, R0, a),
+        null_test(condition),
+        null_zero(condition),
+        null_rest(condition),
+        keep(variables, hints, result),
+    )
 }

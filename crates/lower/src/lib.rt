@@ -1,21 +1,21 @@
 // What an instruction or a terminator becomes.
-mod count;
 mod instruction;
 mod list;
 mod operand;
 
 use insn::Insn;
-use ir::Instruction;
 use ir::Opcode;
 use ir::Terminator;
-use ir::operands;
-use ir::operands::Head;
-use ir::operands::Operands;
+use ir::few::Few;
+use operand::Step;
 ghost use mathlib.Core.Path.{_≡_};
-ghost use Rattle.ir.specs.Operands.{listOf};
-ghost use Rattle.frame.specs.Cell.{frameOf};
+ghost use Rattle.ir.specs.Few.{listOfFew};
+ghost use Rattle.frame.specs.Hint.{frameBy};
+ghost use Rattle.lower.specs.Put.{putLowered};
 ghost use Rattle.lower.specs.Held.{held, endingOps};
-ghost use Rattle.lower.specs.Instruction.{instruction, afterFirst, afterTwo, scratchAfter};
+ghost use Rattle.lower.specs.Instruction as I;
+ghost use Rattle.lower.specs.Instruction.{scratchBy};
+ghost use Rattle.lower.specs.Step.{Puts};
 ghost use Rattle.lower.specs.Terminator.{terminator};
 
 // Why an instruction is refused.
@@ -41,12 +41,11 @@ pub enum MapUse {
     Map(u32),
 }
 
-// What an instruction becomes: the load of a map's address where there is one, then the first n of list; the rest of list is zero.
+// What an instruction becomes, beside its code: the map whose address its code loads first, and the slots that the code takes.
 pub struct Emitted {
     pub outcome: Outcome,
     pub map: MapUse,
-    pub list: [Insn; 11],
-    pub n: usize,
+    pub slots: u32,
 }
 
 // What a terminator becomes: a load of R0 and EXIT; JA; a load of R0, JNE and JA.
@@ -57,64 +56,109 @@ pub enum Ending {
     Refused(Reason),
 }
 
-// An instruction, in the frame of these variables, from scratch j of the ring on; condition: its result is a branch condition of any block.
-pub fn lower_instruction(variables: &[u32], j: u8, condition: bool, i: Instruction) -> Emitted
-    ensures { λ r. ⌜ r ≡ held (instruction (frameOf (now (variables .entry))) j condition i) ⌝ }
+fn emit(
+    code: &mut [u8],
+    at: usize,
+    variables: &[u32],
+    hints: &[u8; 256],
+    j: u8,
+    condition: bool,
+    result: u32,
+    opcode: Opcode,
+    few: Few,
+) -> Emitted
+    ensures { λ r. ⌜ Puts (now (code .entry)) at (I.opcode (frameBy (now (variables .entry)) (now (hints .entry))) j condition result opcode (listOfFew few)) (now (code .exit)) r ⌝ }
 {
-    let result = i.result;
-    let list = i.operands;
-    let opcode = i.opcode;
     match opcode {
-        Opcode::HelperCall { id } => instruction::helper_call(variables, result, id, list),
-        Opcode::LoadKey => instruction::load_key(variables, result, list),
-        Opcode::Store { size } => instruction::store_value(variables, size, list),
+        Opcode::HelperCall { id } => {
+            instruction::helper_call(code, at, variables, hints, result, id, few)
+        }
+        Opcode::LoadKey => instruction::load_key(code, at, variables, hints, result, few),
+        Opcode::Store { size } => {
+            instruction::store_value(code, at, variables, hints, size, few)
+        }
         Opcode::LoadCtx { offset, size } => {
-            instruction::from_context(variables, result, offset, size)
+            instruction::from_context(code, at, variables, hints, result, offset, size)
         }
         Opcode::LoadPacket { offset, size } => {
-            instruction::from_context(variables, result, offset, size)
+            instruction::from_context(code, at, variables, hints, result, offset, size)
         }
         Opcode::CopyCtxToMem { offset, size } => {
-            instruction::copy_context(variables, result, offset, size, list)
+            instruction::copy_context(code, at, variables, hints, result, offset, size, few)
         }
-        Opcode::NullCheck => instruction::null_check(variables, condition, result, list),
-        Opcode::Binary { op } => instruction::binary(variables, result, op, list),
-        Opcode::CallMap { map } => instruction::call_map(variables, j, result, map, list),
-        Opcode::UpdateMap { map } => instruction::update_map(variables, j, result, map, list),
+        Opcode::NullCheck => {
+            instruction::null_check(code, at, variables, hints, condition, result, few)
+        }
+        Opcode::Binary { op } => {
+            instruction::binary(code, at, variables, hints, result, op, few)
+        }
+        Opcode::CallMap { map } => {
+            instruction::call_map(code, at, variables, hints, j, result, map, few)
+        }
+        Opcode::UpdateMap { map } => {
+            instruction::update_map(code, at, variables, hints, j, result, map, few)
+        }
         Opcode::RingBufReserve { map, size } => {
-            instruction::reserve(variables, result, map, size)
+            instruction::reserve(code, at, variables, hints, result, map, size)
         }
-        Opcode::RingBufSubmit { map: _ } => instruction::submit(variables, result, list),
+        Opcode::RingBufSubmit { map: _ } => {
+            instruction::submit(code, at, variables, hints, result, few)
+        }
     }
 }
 
-fn after_first(j: u8, list: Operands) -> u8
-    ensures { λ r. ⌜ r ≡ afterFirst j (listOf list) ⌝ }
+// An instruction, in the frame of these variables, from scratch j of the ring on; condition: its result is a branch condition of any block.
+// Its code is put from the byte `at` on.
+pub fn lower_instruction(
+    code: &mut [u8],
+    at: usize,
+    variables: &[u32],
+    hints: &[u8; 256],
+    j: u8,
+    condition: bool,
+    result: u32,
+    opcode: Opcode,
+    few: Few,
+) -> Emitted
+    ensures { λ r. ⌜ r ≡ held (I.opcode (frameBy (now (variables .entry)) (now (hints .entry))) j condition result opcode (listOfFew few)) ⌝ }
+    ensures { λ _. ⌜ now (code .exit) ≡ putLowered (now (code .entry)) at (I.opcode (frameBy (now (variables .entry)) (now (hints .entry))) j condition result opcode (listOfFew few)) ⌝ }
 {
-    match operands::first(list) {
-        Head::Nothing => j,
-        Head::Is(a) => operand::next(j, a),
-    }
-}
-
-fn after_two(j: u8, list: Operands) -> u8
-    ensures { λ r. ⌜ r ≡ afterTwo j (listOf list) ⌝ }
-{
-    match operands::first(list) {
-        Head::Nothing => j,
-        Head::Is(a) => after_first(operand::next(j, a), operands::rest(list)),
-    }
+    emit(
+        code,
+        at,
+        variables,
+        hints,
+        j,
+        condition,
+        result,
+        opcode,
+        few,
+    )
 }
 
 // The ring's position after an instruction.
-pub fn scratch_after(j: u8, i: Instruction) -> u8
-    ensures { λ r. ⌜ r ≡ scratchAfter j i ⌝ }
+pub fn scratch_after(j: u8, opcode: Opcode, few: Few) -> u8
+    ensures { λ r. ⌜ r ≡ scratchBy j opcode (listOfFew few) ⌝ }
 {
-    let list = i.operands;
-    let opcode = i.opcode;
+    let n = few.count;
+    let a = few.a;
+    let b = few.b;
     match opcode {
-        Opcode::CallMap { map: _ } => after_first(j, list),
-        Opcode::UpdateMap { map: _ } => after_two(j, list),
+        Opcode::CallMap { map: _ } => {
+            if n == 0 {
+                return j;
+            }
+            operand::next(j, a)
+        }
+        Opcode::UpdateMap { map: _ } => {
+            if n == 0 {
+                return j;
+            }
+            if n == 1 {
+                return operand::next(j, a);
+            }
+            operand::next(operand::next(j, a), b)
+        }
         Opcode::HelperCall { id: _ } => j,
         Opcode::LoadKey => j,
         Opcode::Store { size: _ } => j,
@@ -128,32 +172,22 @@ pub fn scratch_after(j: u8, i: Instruction) -> u8
     }
 }
 
-pub fn lower_terminator(variables: &[u32], t: Terminator) -> Ending
-    ensures { λ r. ⌜ endingOps r ≡ terminator (frameOf (now (variables .entry))) t ⌝ }
+pub fn lower_terminator(variables: &[u32], hints: &[u8; 256], t: Terminator) -> Ending
+    ensures { λ r. ⌜ endingOps r ≡ terminator (frameBy (now (variables .entry)) (now (hints .entry))) t ⌝ }
 {
     match t {
-        Terminator::Return(o) => {
-            let s = operand::load(variables, insn::R0, o);
-            let first = s.insn;
-            let outcome = s.outcome;
-            match outcome {
-                Outcome::Fine => Ending::Return(first),
-                Outcome::Refused(r) => Ending::Refused(r),
-            }
-        }
+        Terminator::Return(o) => match operand::load_step(variables, hints, insn::R0, o) {
+            Step::Is(first) => Ending::Return(first),
+            Step::Refused(r) => Ending::Refused(r),
+        },
         Terminator::Jump(target) => Ending::Jump(target),
         Terminator::Branch {
             condition,
             true_block,
             false_block,
-        } => {
-            let s = operand::load(variables, insn::R0, condition);
-            let first = s.insn;
-            let outcome = s.outcome;
-            match outcome {
-                Outcome::Fine => Ending::Branch(first, true_block, false_block),
-                Outcome::Refused(r) => Ending::Refused(r),
-            }
-        }
+        } => match operand::load_step(variables, hints, insn::R0, condition) {
+            Step::Is(first) => Ending::Branch(first, true_block, false_block),
+            Step::Refused(r) => Ending::Refused(r),
+        },
     }
 }

@@ -1,232 +1,237 @@
-// Values of two to eleven instructions, after the load of a map's address where there is one; or of the first refusal.
+// Two to six pieces put one after the other, after the load of a map's address where there is one; or the first refusal, and nothing put.
 use crate::Emitted;
 use crate::MapUse;
 use crate::Outcome;
 use crate::Reason;
-use crate::operand::Step;
+use crate::operand::Piece;
+use crate::operand::first;
 use insn::Insn;
+ghost use Prim.Native.Nat.{_+_, _*_, _≤_};
 ghost use mathlib.Core.Path.{_≡_};
+ghost use Rattle.wire.specs.Le.{store};
+ghost use Rattle.insn.specs.Layout.{bytesOf};
 ghost use Rattle.lower.specs.Op.{becomes, refused, _▸_};
-ghost use Rattle.lower.specs.Held.{held, zeroInsn};
-ghost use Rattle.lower.specs.Step.{stepOf, firstOf, mapOps, finished};
-
-fn zero() -> Insn
-    ensures { λ r. ⌜ r ≡ zeroInsn ⌝ }
-{
-    Insn {
-        code: 0,
-        dst: 0,
-        src: 0,
-        off: 0,
-        imm: 0,
-    }
-}
-
-// The first refusal of what came before and of a step.
-fn first(o: Outcome, s: Step) -> Outcome
-    ensures { λ r. ⌜ r ≡ firstOf o (s .outcome) ⌝ }
-{
-    match o {
-        Outcome::Fine => s.outcome,
-        Outcome::Refused(_) => o,
-    }
-}
+ghost use Rattle.lower.specs.Held.{held};
+ghost use Rattle.lower.specs.Step.{pieceOf, mapOps, Holds, PutPiece, Puts};
 
 pub fn refused(r: Reason) -> Emitted
     ensures { λ e. ⌜ e ≡ held (refused r) ⌝ }
 {
-    let z = zero();
     Emitted {
         outcome: Outcome::Refused(r),
         map: MapUse::Nothing,
-        list: [z; 11],
-        n: 0,
+        slots: 0,
     }
 }
 
-fn finish(outcome: Outcome, map: MapUse, list: [Insn; 11], n: usize) -> Emitted
-    ensures { λ r. ⌜ r ≡ finished outcome map list n ⌝ }
+// ---- putting
+
+// An instruction at a slot, counted from a byte of the code; no slot lies in the code where that byte lies past its end.
+fn put_slot(code: &mut [u8], at: usize, slot: u32, i: Insn)
+    ensures { λ _. ⌜ now (code .exit) ≡ store (now (code .entry)) (at + 8 * slot) (bytesOf i) ⌝ }
 {
-    match outcome {
-        Outcome::Fine => Emitted {
-            outcome,
-            map,
-            list,
-            n,
-        },
+    if code.len() < at {
+        return;
+    }
+    insn::put_insn(code, at + 8 * (slot as usize), i);
+}
+
+const MAP_SLOTS: u32 = 2;
+
+// The load of a map's address, and the slot after it.
+fn put_map(code: &mut [u8], at: usize, map: MapUse) -> u32
+    ensures { λ r. ⌜ Holds (now (code .entry)) at (mapOps map) (now (code .exit)) r ⌝ }
+    ensures { λ r. ⌜ r ≤ 2 ⌝ }
+{
+    match map {
+        MapUse::Nothing => 0,
+        MapUse::Map(_) => {
+            let wide = Insn {
+                code: insn::BPF_LD_DW_IMM,
+                dst: insn::R1,
+                src: 1,
+                off: 0,
+                imm: 0,
+            };
+            let zero = Insn {
+                code: 0,
+                dst: 0,
+                src: 0,
+                off: 0,
+                imm: 0,
+            };
+            put_slot(code, at, 0, wide);
+            put_slot(code, at, 1, zero);
+            MAP_SLOTS
+        }
+    }
+}
+
+// A piece from a slot on, and the slot after it.
+fn put(code: &mut [u8], at: usize, slot: u32, p: Piece) -> u32
+    requires { ⌜ slot ≤ 64 ⌝ }
+    ensures { λ r. ⌜ PutPiece (now (code .entry)) at slot p (now (code .exit)) r ⌝ }
+{
+    match p {
+        Piece::Refused(_) => slot,
+        Piece::Nothing => slot,
+        Piece::One(a) => {
+            put_slot(code, at, slot, a);
+            slot + 1
+        }
+        Piece::Two(a, b) => {
+            put_slot(code, at, slot, a);
+            put_slot(code, at, slot + 1, b);
+            slot + 2
+        }
+    }
+}
+
+// ---- lists
+
+pub fn two(code: &mut [u8], at: usize, map: MapUse, a: Piece, b: Piece) -> Emitted
+    ensures { λ r. ⌜ Puts (now (code .entry)) at (becomes (mapOps map) ▸ pieceOf a ▸ pieceOf b) (now (code .exit)) r ⌝ }
+{
+    let o = first(Outcome::Fine, a);
+    let o = first(o, b);
+    match o {
         Outcome::Refused(r) => refused(r),
+        Outcome::Fine => {
+            let slot = put_map(code, at, map);
+            let slot = put(code, at, slot, a);
+            let slots = put(code, at, slot, b);
+            Emitted {
+                outcome: o,
+                map,
+                slots,
+            }
+        }
     }
 }
 
-pub fn two(map: MapUse, a: Step, b: Step) -> Emitted
-    ensures { λ r. ⌜ r ≡ held (becomes (mapOps map) ▸ stepOf a ▸ stepOf b) ⌝ }
+pub fn three(code: &mut [u8], at: usize, map: MapUse, a: Piece, b: Piece, c: Piece) -> Emitted
+    ensures { λ r. ⌜ Puts (now (code .entry)) at (becomes (mapOps map) ▸ pieceOf a ▸ pieceOf b ▸ pieceOf c) (now (code .exit)) r ⌝ }
 {
-    let o = a.outcome;
-    let o = first(o, b);
-    let z = zero();
-    let a = a.insn;
-    let b = b.insn;
-    finish(o, map, [a, b, z, z, z, z, z, z, z, z, z], 2)
-}
-
-pub fn three(map: MapUse, a: Step, b: Step, c: Step) -> Emitted
-    ensures { λ r. ⌜ r ≡ held (becomes (mapOps map) ▸ stepOf a ▸ stepOf b ▸ stepOf c) ⌝ }
-{
-    let o = a.outcome;
+    let o = first(Outcome::Fine, a);
     let o = first(o, b);
     let o = first(o, c);
-    let z = zero();
-    let a = a.insn;
-    let b = b.insn;
-    let c = c.insn;
-    finish(o, map, [a, b, c, z, z, z, z, z, z, z, z], 3)
+    match o {
+        Outcome::Refused(r) => refused(r),
+        Outcome::Fine => {
+            let slot = put_map(code, at, map);
+            let slot = put(code, at, slot, a);
+            let slot = put(code, at, slot, b);
+            let slots = put(code, at, slot, c);
+            Emitted {
+                outcome: o,
+                map,
+                slots,
+            }
+        }
+    }
 }
 
-pub fn four(map: MapUse, a: Step, b: Step, c: Step, d: Step) -> Emitted
-    ensures { λ r. ⌜ r ≡ held (becomes (mapOps map) ▸ stepOf a ▸ stepOf b ▸ stepOf c ▸ stepOf d) ⌝ }
-{
-    let o = a.outcome;
-    let o = first(o, b);
-    let o = first(o, c);
-    let o = first(o, d);
-    let z = zero();
-    let a = a.insn;
-    let b = b.insn;
-    let c = c.insn;
-    let d = d.insn;
-    finish(o, map, [a, b, c, d, z, z, z, z, z, z, z], 4)
-}
-
-pub fn five(map: MapUse, a: Step, b: Step, c: Step, d: Step, e: Step) -> Emitted
-    ensures { λ r. ⌜ r ≡ held (becomes (mapOps map) ▸ stepOf a ▸ stepOf b ▸ stepOf c ▸ stepOf d ▸ stepOf e) ⌝ }
-{
-    let o = a.outcome;
-    let o = first(o, b);
-    let o = first(o, c);
-    let o = first(o, d);
-    let o = first(o, e);
-    let z = zero();
-    let a = a.insn;
-    let b = b.insn;
-    let c = c.insn;
-    let d = d.insn;
-    let e = e.insn;
-    finish(o, map, [a, b, c, d, e, z, z, z, z, z, z], 5)
-}
-
-pub fn six(map: MapUse, a: Step, b: Step, c: Step, d: Step, e: Step, f: Step) -> Emitted
-    ensures { λ r. ⌜ r ≡ held (becomes (mapOps map) ▸ stepOf a ▸ stepOf b ▸ stepOf c ▸ stepOf d ▸ stepOf e ▸ stepOf f) ⌝ }
-{
-    let o = a.outcome;
-    let o = first(o, b);
-    let o = first(o, c);
-    let o = first(o, d);
-    let o = first(o, e);
-    let o = first(o, f);
-    let z = zero();
-    let a = a.insn;
-    let b = b.insn;
-    let c = c.insn;
-    let d = d.insn;
-    let e = e.insn;
-    let f = f.insn;
-    finish(o, map, [a, b, c, d, e, f, z, z, z, z, z], 6)
-}
-
-pub fn seven(map: MapUse, a: Step, b: Step, c: Step, d: Step, e: Step, f: Step, g: Step) -> Emitted
-    ensures { λ r. ⌜ r ≡ held (becomes (mapOps map) ▸ stepOf a ▸ stepOf b ▸ stepOf c ▸ stepOf d ▸ stepOf e ▸ stepOf f ▸ stepOf g) ⌝ }
-{
-    let o = a.outcome;
-    let o = first(o, b);
-    let o = first(o, c);
-    let o = first(o, d);
-    let o = first(o, e);
-    let o = first(o, f);
-    let o = first(o, g);
-    let z = zero();
-    let a = a.insn;
-    let b = b.insn;
-    let c = c.insn;
-    let d = d.insn;
-    let e = e.insn;
-    let f = f.insn;
-    let g = g.insn;
-    finish(o, map, [a, b, c, d, e, f, g, z, z, z, z], 7)
-}
-
-pub fn nine(
+pub fn four(
+    code: &mut [u8],
+    at: usize,
     map: MapUse,
-    a: Step,
-    b: Step,
-    c: Step,
-    d: Step,
-    e: Step,
-    f: Step,
-    g: Step,
-    h: Step,
-    i: Step,
+    a: Piece,
+    b: Piece,
+    c: Piece,
+    d: Piece,
 ) -> Emitted
-    ensures { λ r. ⌜ r ≡ held (becomes (mapOps map) ▸ stepOf a ▸ stepOf b ▸ stepOf c ▸ stepOf d ▸ stepOf e ▸ stepOf f ▸ stepOf g ▸ stepOf h ▸ stepOf i) ⌝ }
+    ensures { λ r. ⌜ Puts (now (code .entry)) at (becomes (mapOps map) ▸ pieceOf a ▸ pieceOf b ▸ pieceOf c ▸ pieceOf d) (now (code .exit)) r ⌝ }
 {
-    let o = a.outcome;
+    let o = first(Outcome::Fine, a);
     let o = first(o, b);
     let o = first(o, c);
     let o = first(o, d);
-    let o = first(o, e);
-    let o = first(o, f);
-    let o = first(o, g);
-    let o = first(o, h);
-    let o = first(o, i);
-    let z = zero();
-    let a = a.insn;
-    let b = b.insn;
-    let c = c.insn;
-    let d = d.insn;
-    let e = e.insn;
-    let f = f.insn;
-    let g = g.insn;
-    let h = h.insn;
-    let i = i.insn;
-    finish(o, map, [a, b, c, d, e, f, g, h, i, z, z], 9)
+    match o {
+        Outcome::Refused(r) => refused(r),
+        Outcome::Fine => {
+            let slot = put_map(code, at, map);
+            let slot = put(code, at, slot, a);
+            let slot = put(code, at, slot, b);
+            let slot = put(code, at, slot, c);
+            let slots = put(code, at, slot, d);
+            Emitted {
+                outcome: o,
+                map,
+                slots,
+            }
+        }
+    }
 }
 
-pub fn eleven(
+pub fn five(
+    code: &mut [u8],
+    at: usize,
     map: MapUse,
-    a: Step,
-    b: Step,
-    c: Step,
-    d: Step,
-    e: Step,
-    f: Step,
-    g: Step,
-    h: Step,
-    i: Step,
-    j: Step,
-    k: Step,
+    a: Piece,
+    b: Piece,
+    c: Piece,
+    d: Piece,
+    e: Piece,
 ) -> Emitted
-    ensures { λ r. ⌜ r ≡ held (becomes (mapOps map) ▸ stepOf a ▸ stepOf b ▸ stepOf c ▸ stepOf d ▸ stepOf e ▸ stepOf f ▸ stepOf g ▸ stepOf h ▸ stepOf i ▸ stepOf j ▸ stepOf k) ⌝ }
+    ensures { λ r. ⌜ Puts (now (code .entry)) at (becomes (mapOps map) ▸ pieceOf a ▸ pieceOf b ▸ pieceOf c ▸ pieceOf d ▸ pieceOf e) (now (code .exit)) r ⌝ }
 {
-    let o = a.outcome;
+    let o = first(Outcome::Fine, a);
+    let o = first(o, b);
+    let o = first(o, c);
+    let o = first(o, d);
+    let o = first(o, e);
+    match o {
+        Outcome::Refused(r) => refused(r),
+        Outcome::Fine => {
+            let slot = put_map(code, at, map);
+            let slot = put(code, at, slot, a);
+            let slot = put(code, at, slot, b);
+            let slot = put(code, at, slot, c);
+            let slot = put(code, at, slot, d);
+            let slots = put(code, at, slot, e);
+            Emitted {
+                outcome: o,
+                map,
+                slots,
+            }
+        }
+    }
+}
+
+pub fn six(
+    code: &mut [u8],
+    at: usize,
+    map: MapUse,
+    a: Piece,
+    b: Piece,
+    c: Piece,
+    d: Piece,
+    e: Piece,
+    f: Piece,
+) -> Emitted
+    ensures { λ r. ⌜ Puts (now (code .entry)) at (becomes (mapOps map) ▸ pieceOf a ▸ pieceOf b ▸ pieceOf c ▸ pieceOf d ▸ pieceOf e ▸ pieceOf f) (now (code .exit)) r ⌝ }
+{
+    let o = first(Outcome::Fine, a);
     let o = first(o, b);
     let o = first(o, c);
     let o = first(o, d);
     let o = first(o, e);
     let o = first(o, f);
-    let o = first(o, g);
-    let o = first(o, h);
-    let o = first(o, i);
-    let o = first(o, j);
-    let o = first(o, k);
-    let a = a.insn;
-    let b = b.insn;
-    let c = c.insn;
-    let d = d.insn;
-    let e = e.insn;
-    let f = f.insn;
-    let g = g.insn;
-    let h = h.insn;
-    let i = i.insn;
-    let j = j.insn;
-    let k = k.insn;
-    finish(o, map, [a, b, c, d, e, f, g, h, i, j, k], 11)
+    match o {
+        Outcome::Refused(r) => refused(r),
+        Outcome::Fine => {
+            let slot = put_map(code, at, map);
+            let slot = put(code, at, slot, a);
+            let slot = put(code, at, slot, b);
+            let slot = put(code, at, slot, c);
+            let slot = put(code, at, slot, d);
+            let slot = put(code, at, slot, e);
+            let slots = put(code, at, slot, f);
+            Emitted {
+                outcome: o,
+                map,
+                slots,
+            }
+        }
+    }
 }

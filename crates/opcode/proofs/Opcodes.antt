@@ -1,5 +1,5 @@
--- What the tests of an opcode's fields come to: two at once, the table of operations, a signed zero, a map number.
-use mathlib.Core.Path.{_≡_, refl}
+-- What the tests of an opcode's fields come to: two at once, the table of operations, a signed zero, a map number; and the opcode that they say.
+use mathlib.Core.Path.{_≡_, refl, ap}
 use mathlib.Core.Bool.{Bool, true, false}
 use Prim.Native.Nat.{ℕ, zero, suc, _-_, _^_, _<_}
 use native.Mathlib.Omega.{arith}
@@ -13,7 +13,9 @@ use mir.Val.{SFits, ofZ}
 use Rattle.wire.specs.Pick.{pick, both, isZero}
 use Rattle.ir.specs.declared.BinaryOp.the-variants.{Add}
 use Rattle.ir.specs.declared.Opcode.{Opcode}
-use Rattle.opcode.specs.Opcode.{operations, onMap, when}
+use Rattle.ir.specs.declared.Opcode.the-variants as C
+use Rattle.opcode.specs.Opcode.{operations, onMap, when, opcodeOf, isOpcode, numbered, mapOf, opcodeIn}
+use Rattle.opcode.specs.declared.Fields.{Fields}
 use Rattle.opcode.specs.declared.ReadOpcode.{ReadOpcode}
 use Rattle.opcode.specs.declared.ReadOpcode.the-variants.{Is, Broken}
 
@@ -41,32 +43,99 @@ zero-word (negsuc n) h =
     let half : n < 2 ^ 31 = h .sfits in
     ne-eqb (2 ^ 32 - suc n) 0 (λ (e : 2 ^ 32 - suc n ≡ 0). omega arith)
 
--- an opcode by one rule
-pub picked : (t : Bool) (o : ReadOpcode) → when t o ≡ pick t o Broken
+-- the signed number z as the number of a map, which the code has as the equal y
+below-zero : (maps : ℕ) (z : ℤ) → ltZ z (pos 0) ≡ true → (numbered maps z ≡ false) × (mapOf z ≡ 0)
+unfolding numbered mapOf
+below-zero maps (pos n) t = absurd (omega (arith, ltb-true n 0 t))
+below-zero maps (negsuc n) t = (refl, refl)
+
+from-zero : (maps : ℕ) (z : ℤ) → ltZ z (pos 0) ≡ false → (ltb (natAbs z) maps ≡ numbered maps z) × (natAbs z ≡ mapOf z)
+unfolding numbered mapOf
+from-zero maps (pos n) t = (refl, refl)
+from-zero maps (negsuc n) t = let z : _≡_ {A = ℕ} 0 1 = cc in absurd (omega arith)
+
+pub negative : (maps : ℕ) (y z : ℤ) → y ≡ z → ltZ y (pos 0) ≡ true → (numbered maps z ≡ false) × (mapOf z ≡ 0)
+negative maps y z e t = below-zero maps z (rw e at t)
+
+pub not-negative : (maps : ℕ) (y z : ℤ) → y ≡ z → ltZ y (pos 0) ≡ false → (ltb (natAbs y) maps ≡ numbered maps z) × (natAbs y ≡ mapOf z)
+not-negative maps y z e t = rw e (from-zero maps z (rw e at t))
+
+-- ---- when fields are an opcode's
+
+ok-picked : (t : Bool) (o : Opcode) → isOpcode (pick t (Is o) Broken) ≡ t
+unfolding isOpcode
+ok-picked true o = refl
+ok-picked false o = refl
+
+pub ok-when : (t : Bool) (o : Opcode) → isOpcode (when t (Is o)) ≡ t
+unfolding isOpcode when
+ok-when true o = refl
+ok-when false o = refl
+
+ok-map : (maps : ℕ) (z : ℤ) (of : ℕ → Opcode) → isOpcode (onMap maps z of) ≡ numbered maps z
+unfolding isOpcode onMap numbered
+ok-map maps (pos m) of = ok-picked (ltb m maps) (of m)
+ok-map maps (negsuc m) of = refl
+
+pub ok-when-map : (t : Bool) (maps : ℕ) (z : ℤ) (of : ℕ → Opcode) → isOpcode (when t (onMap maps z of)) ≡ both t (numbered maps z)
+unfolding isOpcode when
+ok-when-map true maps z of = ok-map maps z of
+ok-when-map false maps z of = refl
+
+-- ---- which opcode it is then
+
+record Says (x : ReadOpcode) (o : Opcode) : Type 0 where
+  says : (p : Opcode) → x ≡ Is p → o ≡ p
+
+says-is : (o : Opcode) → Says (Is o) o
+says-is o = record { says = λ p e. cc }
+
+says-broken : (o : Opcode) → Says Broken o
+says-broken o = record { says = λ p e. let z : _≡_ {A = ℕ} 0 1 = cc in absurd (omega arith) }
+
+says-pick : (t : Bool) (x y : ReadOpcode) (o p : Opcode) → Says x o → Says y p → Says (pick t x y) (pick t o p)
+says-pick true x y o p h l = h
+says-pick false x y o p h l = l
+
+says-when : (t : Bool) (x : ReadOpcode) (o : Opcode) → Says x o → Says (when t x) o
 unfolding when
-picked true o = refl
-picked false o = refl
+says-when true x o h = h
+says-when false x o h = says-broken o
 
--- by two rules, one after the other
-pub nested : (x y : Bool) (o : ReadOpcode) → when (both x y) o ≡ when x (pick y o Broken)
-unfolding when
-nested true y o = picked y o
-nested false y o = refl
+says-map : (maps : ℕ) (z : ℤ) (of : ℕ → Opcode) → Says (onMap maps z of) (of (mapOf z))
+unfolding onMap mapOf
+says-map maps (pos m) of = go (ltb m maps)
+  where
+    go : (t : Bool) → Says (pick t (Is (of m)) Broken) (of m)
+    go true = says-is (of m)
+    go false = says-broken (of m)
+says-map maps (negsuc m) of = says-broken (of 0)
 
--- a map number taken from the signed number z, which the code has as the equal y
-module _ (maps : ℕ) (of : ℕ → Opcode) where
-  below-zero : (z : ℤ) → ltZ z (pos 0) ≡ true → Broken ≡ onMap maps z of
-  unfolding onMap
-  below-zero (pos n) t = absurd (omega (arith, ltb-true n 0 t))
-  below-zero (negsuc n) t = refl
+module _ (f : Fields) (maps : ℕ) where
+  by-code : Says (opcodeOf f maps) (opcodeIn f)
+  unfolding opcodeOf opcodeIn mapOf
+  by-code =
+      says-pick (eqb (f .code) 1) _ _ _ _ (says-when _ _ _ (says-is _))
+      (says-pick (eqb (f .code) 2) _ _ _ _ (says-when _ _ _ (says-is _))
+      (says-pick (eqb (f .code) 3) _ _ _ _ (says-when _ _ _ (says-is _))
+      (says-pick (eqb (f .code) 4) _ _ _ _ (says-when _ _ _ (says-is _))
+      (says-pick (eqb (f .code) 5) _ _ _ _ (says-when _ _ _ (says-is _))
+      (says-pick (eqb (f .code) 6) _ _ _ _ (says-when _ _ _ (says-is _))
+      (says-pick (eqb (f .code) 7) _ _ _ _ (says-when _ _ _ (says-is _))
+      (says-pick (eqb (f .code) 8) _ _ _ _ (says-when _ _ _ (says-is _))
+      (says-pick (eqb (f .code) 9) _ _ _ _ (says-when _ _ _ (says-map maps (pos (f .number)) C.CallMap))
+      (says-pick (eqb (f .code) 10) _ _ _ _ (says-when _ _ _ (says-map maps (pos (f .number)) C.UpdateMap))
+      (says-pick (eqb (f .code) 11) _ _ _ _ (says-when _ _ _ (says-map maps (f .offset) (λ m. C.RingBufReserve m (f .number))))
+      (says-pick (eqb (f .code) 12) _ _ _ _ (says-when _ _ _ (says-map maps (pos (f .number)) C.RingBufSubmit)) (says-broken C.LoadKey))))))))))))
 
-  from-zero : (z : ℤ) → ltZ z (pos 0) ≡ false → when (ltb (natAbs z) maps) (Is (of (natAbs z))) ≡ onMap maps z of
-  unfolding onMap
-  from-zero (pos n) t = picked (ltb n maps) (Is (of n))
-  from-zero (negsuc n) t = let z : _≡_ {A = ℕ} 0 1 = cc in absurd (omega arith)
+  -- fields that are an opcode's are that opcode's
+  pub opcode-read : (o : Opcode) → opcodeOf f maps ≡ Is o → opcodeIn f ≡ o
+  opcode-read o e = by-code .says o e
 
-  pub negative-map : (y z : ℤ) → y ≡ z → ltZ y (pos 0) ≡ true → Broken ≡ onMap maps z of
-  negative-map y z e t = below-zero z (rw e at t)
+  read-by : (x : ReadOpcode) → opcodeOf f maps ≡ x → pick (isOpcode x) (Is (opcodeIn f)) Broken ≡ x
+  unfolding isOpcode
+  read-by (Is o) e = ap Is (opcode-read o e)
+  read-by Broken e = refl
 
-  pub map-number : (y z : ℤ) → y ≡ z → ltZ y (pos 0) ≡ false → when (ltb (natAbs y) maps) (Is (of (natAbs y))) ≡ onMap maps z of
-  map-number y z e t = rw e (from-zero z (rw e at t))
+  pub read-as : {t : Bool} → t ≡ isOpcode (opcodeOf f maps) → pick t (Is (opcodeIn f)) Broken ≡ opcodeOf f maps
+  read-as e = rw e (read-by (opcodeOf f maps) refl)

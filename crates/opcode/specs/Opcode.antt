@@ -67,3 +67,34 @@ opcodeOf f maps =
     (pick (eqb (f .code) 10) (when (both (eqb (f .small) 0) (isZero (f .offset))) (onMap maps (pos (f .number)) C.UpdateMap))
     (pick (eqb (f .code) 11) (when (eqb (f .small) 0) (onMap maps (f .offset) (λ m. C.RingBufReserve m (f .number))))
     (pick (eqb (f .code) 12) (when (both (eqb (f .small) 0) (isZero (f .offset))) (onMap maps (pos (f .number)) C.RingBufSubmit)) Broken)))))))))))
+
+-- the fields are an opcode's
+unfoldable pub isOpcode : ReadOpcode → Bool
+isOpcode (Is o) = true
+isOpcode Broken = false
+
+-- ---- the opcode of fields that are known to be one's: the code says which it is, and no rule is looked at
+
+-- the number of one of so many maps
+unfoldable pub numbered : ℕ → ℤ → Bool
+numbered maps (pos m) = ltb m maps
+numbered maps (negsuc m) = false
+
+unfoldable pub mapOf : ℤ → ℕ
+mapOf (pos m) = m
+mapOf (negsuc m) = 0
+
+unfoldable pub opcodeIn : Fields → Opcode
+opcodeIn f =
+    pick (eqb (f .code) 1) (C.HelperCall (f .number))
+    (pick (eqb (f .code) 2) C.LoadKey
+    (pick (eqb (f .code) 3) (C.Store (f .small))
+    (pick (eqb (f .code) 4) (C.LoadCtx (f .offset) (f .small))
+    (pick (eqb (f .code) 5) (C.LoadPacket (f .offset) (f .small))
+    (pick (eqb (f .code) 6) (C.CopyCtxToMem (f .offset) (f .number))
+    (pick (eqb (f .code) 7) C.NullCheck
+    (pick (eqb (f .code) 8) (C.Binary (getD operations (f .small) Add))
+    (pick (eqb (f .code) 9) (C.CallMap (f .number))
+    (pick (eqb (f .code) 10) (C.UpdateMap (f .number))
+    (pick (eqb (f .code) 11) (C.RingBufReserve (mapOf (f .offset)) (f .number))
+    (pick (eqb (f .code) 12) (C.RingBufSubmit (f .number)) C.LoadKey)))))))))))

@@ -4,8 +4,7 @@ use ir::Opcode;
 ghost use mathlib.Core.Path.{_≡_};
 ghost use lib.ListN.{getD};
 ghost use Rattle.ir.specs.declared.BinaryOp.the-variants.{Add};
-ghost use Rattle.ir.specs.declared.Opcode.the-variants.{RingBufReserve};
-ghost use Rattle.opcode.specs.Opcode.{operations, smallOf, onMap, mapOk, when, opcodeOf};
+ghost use Rattle.opcode.specs.Opcode.{operations, smallOf, mapOk, opcodeOf, isOpcode, numbered, mapOf, opcodeIn};
 ghost use Rattle.wire.specs.Pick.{both, isZero};
 
 pub struct Fields {
@@ -65,36 +64,19 @@ fn is_zero(z: i32) -> bool
     z == 0
 }
 
-// The opcode, where it obeys its rules.
-fn when(ok: bool, o: Opcode) -> ReadOpcode
-    ensures { λ r. ⌜ r ≡ when ok (ReadOpcode.Is o) ⌝ }
+// Whether a signed number is the number of one of so many maps.
+fn is_map(z: i32, maps: u16) -> bool
+    ensures { λ r. ⌜ r ≡ numbered maps z ⌝ }
 {
-    if ok {
-        return ReadOpcode::Is(o);
+    if z < 0 {
+        return false;
     }
-    ReadOpcode::Broken
+    (z as u32) < maps as u32
 }
 
-// RingBufReserve's map is the signed offset.
-fn reserve(maps: u16, offset: i32, size: u32) -> ReadOpcode
-    ensures { λ r. ⌜ r ≡ onMap maps offset (λ m. RingBufReserve m size) ⌝ }
-{
-    if offset < 0 {
-        return ReadOpcode::Broken;
-    }
-    let map = offset as u32;
-    when(
-        map < maps as u32,
-        Opcode::RingBufReserve {
-            map: map,
-            size: size,
-        },
-    )
-}
-
-// The opcode in a unit of so many maps.
-pub fn opcode_of(f: Fields, maps: u16) -> ReadOpcode
-    ensures { λ r. ⌜ r ≡ opcodeOf f maps ⌝ }
+// Whether the fields are an opcode's, in a unit of so many maps: it uses them in their bounds, and what it does not use is zero.
+pub fn opcode_ok(f: Fields, maps: u16) -> bool
+    ensures { λ r. ⌜ r ≡ isOpcode (opcodeOf f maps) ⌝ }
 {
     let code = f.code;
     let small = f.small;
@@ -106,51 +88,80 @@ pub fn opcode_of(f: Fields, maps: u16) -> ReadOpcode
     // The fields that alone may be other than zero.
     let number_only = both(no_small, no_offset);
     let small_only = both(no_offset, no_number);
-    let nothing = both(no_small, small_only);
-    let map_only = both(number_only, number < maps as u32);
     match code {
-        1 => when(number_only, Opcode::HelperCall { id: number }),
-        2 => when(nothing, Opcode::LoadKey),
-        3 => when(small_only, Opcode::Store { size: small }),
-        4 => when(
-            no_number,
-            Opcode::LoadCtx {
-                offset: offset,
-                size: small,
-            },
-        ),
-        5 => when(
-            no_number,
-            Opcode::LoadPacket {
-                offset: offset,
-                size: small,
-            },
-        ),
-        6 => when(
-            no_small,
-            Opcode::CopyCtxToMem {
-                offset: offset,
-                size: number,
-            },
-        ),
-        7 => when(nothing, Opcode::NullCheck),
-        8 => when(
-            both(small < 7, small_only),
-            Opcode::Binary {
-                op: operation(small),
-            },
-        ),
-        9 => when(map_only, Opcode::CallMap { map: number }),
-        10 => when(map_only, Opcode::UpdateMap { map: number }),
-        11 => {
-            if no_small {
-                return reserve(maps, offset, number);
-            }
-            ReadOpcode::Broken
-        }
-        12 => when(map_only, Opcode::RingBufSubmit { map: number }),
-        _ => ReadOpcode::Broken,
+        1 => number_only,
+        2 => both(no_small, small_only),
+        3 => small_only,
+        4 => no_number,
+        5 => no_number,
+        6 => no_small,
+        7 => both(no_small, small_only),
+        8 => both(small < 7, small_only),
+        9 => both(number_only, number < maps as u32),
+        10 => both(number_only, number < maps as u32),
+        11 => both(no_small, is_map(offset, maps)),
+        12 => both(number_only, number < maps as u32),
+        _ => false,
     }
+}
+
+// The map number that a signed number is; a negative one is none.
+fn map_of(z: i32) -> u32
+    ensures { λ r. ⌜ r ≡ mapOf z ⌝ }
+{
+    if z < 0 {
+        return 0;
+    }
+    z as u32
+}
+
+// The opcode of fields that are known to be one's.
+pub fn opcode_in(f: Fields) -> Opcode
+    ensures { λ r. ⌜ r ≡ opcodeIn f ⌝ }
+{
+    let code = f.code;
+    let small = f.small;
+    let offset = f.offset;
+    let number = f.number;
+    match code {
+        1 => Opcode::HelperCall { id: number },
+        2 => Opcode::LoadKey,
+        3 => Opcode::Store { size: small },
+        4 => Opcode::LoadCtx {
+            offset: offset,
+            size: small,
+        },
+        5 => Opcode::LoadPacket {
+            offset: offset,
+            size: small,
+        },
+        6 => Opcode::CopyCtxToMem {
+            offset: offset,
+            size: number,
+        },
+        7 => Opcode::NullCheck,
+        8 => Opcode::Binary {
+            op: operation(small),
+        },
+        9 => Opcode::CallMap { map: number },
+        10 => Opcode::UpdateMap { map: number },
+        11 => Opcode::RingBufReserve {
+            map: map_of(offset),
+            size: number,
+        },
+        12 => Opcode::RingBufSubmit { map: number },
+        _ => Opcode::LoadKey,
+    }
+}
+
+// The opcode in a unit of so many maps.
+pub fn opcode_of(f: Fields, maps: u16) -> ReadOpcode
+    ensures { λ r. ⌜ r ≡ opcodeOf f maps ⌝ }
+{
+    if opcode_ok(f, maps) {
+        return ReadOpcode::Is(opcode_in(f));
+    }
+    ReadOpcode::Broken
 }
 
 // Whether the opcode's map, if it has one, is one of so many.

@@ -1,3 +1,4 @@
 pub mod OperandList
 pub mod Pieces
 pub mod OperandBytes
+pub mod OperandIn

@@ -1,5 +1,6 @@
 // An operand's nine bytes, read and written, and the bytes of operands one after the other.
 use ir::Operand;
+use ir::few::Few;
 use ir::operands;
 use ir::operands::Head;
 use ir::operands::Operands;
@@ -8,9 +9,11 @@ ghost use Prim.Native.Nat.{_+_, _*_, _≤_};
 ghost use lib.Dec.{leb};
 ghost use lib.ListN.{length};
 ghost use Rattle.wire.specs.Le.{store};
+ghost use Rattle.wire.specs.Pick.{pick};
+ghost use Rattle.ir.specs.Few.{missing};
 ghost use Rattle.ir.specs.Operands.{listOf};
 ghost use Rattle.ir.specs.declared.operands.Operands.the-variants.{Zero};
-ghost use Rattle.operand.specs.Operand.{operandAt, operandsAt, operandBytes, operandsBytes};
+ghost use Rattle.operand.specs.Operand.{operandAt, operandsAt, isOperand, areOperands, operandIn, fewAt, operandBytes, operandsBytes};
 
 // Whether n bytes from i on lie in len bytes.
 fn lies(i: usize, n: usize, len: usize) -> bool
@@ -33,17 +36,8 @@ pub enum ReadOperand {
 pub fn operand_at(s: &[u8], i: usize) -> ReadOperand
     ensures { λ r. ⌜ r ≡ operandAt (now (s .entry)) i ⌝ }
 {
-    if lies(i, 9, s.len()) {
-        let tag = s[i];
-        if tag == 0 {
-            if wire::get_u32(s, i + 5) == 0 {
-                return ReadOperand::Is(Operand::Var(wire::get_u32(s, i + 1)));
-            }
-            return ReadOperand::Broken;
-        }
-        if tag == 1 {
-            return ReadOperand::Is(Operand::Immediate(wire::get_i64(s, i + 1)));
-        }
+    if is_operand(s, i) {
+        return ReadOperand::Is(operand_in(s, i));
     }
     ReadOperand::Broken
 }
@@ -69,6 +63,86 @@ pub fn operands_at(s: &[u8], i: usize, k: u8) -> ReadOperands
         left = left - 1;
     }
     ReadOperands::Is(list)
+}
+
+// ---- tested
+
+// Whether the nine bytes at i are an operand's.
+pub fn is_operand(s: &[u8], i: usize) -> bool
+    ensures { λ r. ⌜ r ≡ isOperand (operandAt (now (s .entry)) i) ⌝ }
+{
+    if lies(i, 9, s.len()) {
+        let tag = s[i];
+        if tag == 0 {
+            return wire::get_u32(s, i + 5) == 0;
+        }
+        return tag == 1;
+    }
+    false
+}
+
+// Whether the bytes from i on are those of k operands.
+pub fn are_operands(s: &[u8], i: usize, k: u8) -> bool
+    ensures { λ r. ⌜ r ≡ areOperands (operandsAt Zero (now (s .entry)) i k) ⌝ }
+{
+    let mut at = i;
+    let mut left = k;
+    while 0 < left {
+        if is_operand(s, at) {
+            at = at + 9;
+            left = left - 1;
+        } else {
+            return false;
+        }
+    }
+    true
+}
+
+// ---- taken from bytes that are known to be operands'
+
+// The operand at i: tag 1 is an immediate's.
+pub fn operand_in(s: &[u8], i: usize) -> Operand
+    ensures { λ r. ⌜ r ≡ operandIn (now (s .entry)) i ⌝ }
+{
+    if i < s.len() {
+        if s[i] == 1 {
+            return Operand::Immediate(wire::get_i64(s, i + 1));
+        }
+        return Operand::Var(wire::get_u32(s, i + 1));
+    }
+    Operand::Var(0)
+}
+
+// The operand that stands so many bytes after i.
+fn operand_after(s: &[u8], i: usize, bytes: usize) -> Operand
+    ensures { λ r. ⌜ r ≡ operandIn (now (s .entry)) (i + bytes) ⌝ }
+{
+    if lies(i, bytes, s.len()) {
+        return operand_in(s, i + bytes);
+    }
+    Operand::Var(0)
+}
+
+// The same where there is one.
+fn kept(there: bool, s: &[u8], i: usize, bytes: usize) -> Operand
+    ensures { λ r. ⌜ r ≡ pick there (operandIn (now (s .entry)) (i + bytes)) missing ⌝ }
+{
+    if there {
+        return operand_after(s, i, bytes);
+    }
+    Operand::Immediate(0)
+}
+
+// How many the k operands from i on are, and the first three.
+pub fn few_at(s: &[u8], i: usize, k: u8) -> Few
+    ensures { λ r. ⌜ r ≡ fewAt (now (s .entry)) i k ⌝ }
+{
+    Few {
+        count: k,
+        a: kept(0 < k, s, i, 0),
+        b: kept(1 < k, s, i, 9),
+        c: kept(2 < k, s, i, 18),
+    }
 }
 
 // ---- written

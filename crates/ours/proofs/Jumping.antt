@@ -142,10 +142,10 @@ module _ (P : ℕ → ℕ → Type 0) where
   each-plain s [] = tt
   each-plain s (i ∷ is) = each-plain (suc s) is
 
-  each-tidy : (place s : ℕ) (x : Lowered) → Tidy x → Each P s (ops (lay place x))
+  each-tidy : {n : ℕ} (place s : ℕ) (x : Lowered) → Tidy n x → Each P s (ops (lay place x))
   unfolding lay ops mapOps
-  each-tidy place s _ (Tidy.some U.Nothing is) = each-plain s is
-  each-tidy place s _ (Tidy.some (U.Map m) is) = each-plain (s + 2) is
+  each-tidy place s _ (Tidy.some U.Nothing is most) = each-plain s is
+  each-tidy place s _ (Tidy.some (U.Map m) is most) = each-plain (s + 2) is
   each-tidy place s _ (Tidy.none r) = tt
 
   each-body : (c : Context) (j s : ℕ) (ps : List PlacedInstruction) → Fine (instructions c j ps) → Each P s (ops (instructions c j ps))

@@ -72,28 +72,40 @@ pub record OneAnswer : Type 0 where
   pub text-put-refused : Decides text.put_refused.Reads.Post (λ κ r (out, _). r and now out)
   pub opcode-small-of : DecidesAnswer opcode.small_of.Reads.Post
   pub opcode-opcode-of : DecidesAnswer opcode.opcode_of.Reads.Post
+  pub opcode-opcode-ok : DecidesAnswer opcode.opcode_ok.Reads.Post
+  pub opcode-opcode-in : DecidesAnswer opcode.opcode_in.Reads.Post
   pub opcode-map-ok : DecidesAnswer opcode.map_ok.Reads.Post
   pub operand-operand-at : DecidesAnswer operand.operand_at.Reads.Post
   pub operand-operands-at : DecidesAnswer operand.operands_at.Reads.Post
+  pub operand-is-operand : DecidesAnswer operand.is_operand.Reads.Post
+  pub operand-are-operands : DecidesAnswer operand.are_operands.Reads.Post
+  pub operand-operand-in : DecidesAnswer operand.operand_in.Reads.Post
+  pub operand-few-at : DecidesAnswer operand.few_at.Reads.Post
   pub operand-put-operand : Decides operand.put_operand.Reads.Post (λ κ r (b, _). now b)
   pub operand-put-operands : Decides operand.put_operands.Reads.Post (λ κ r (b, _). now b)
   pub record-refusal : DecidesAnswer reader.refusal.Reads.Post
   pub record-read-record : DecidesAnswer reader.read_record.Reads.Post
+  pub record-check-record : DecidesAnswer reader.check_record.Reads.Post
+  pub record-whole : DecidesAnswer reader.whole.Reads.Post
+  pub record-terminator-in : DecidesAnswer reader.terminator.terminator_in.Reads.Post
   pub record-head-ok : DecidesAnswer reader.payload.head_ok.Reads.Post
   pub recordwriter-refusal : DecidesAnswer recordwriter.refusal.Reads.Post
   pub recordwriter-write-record : Decides recordwriter.write_record.Reads.Post (λ κ r (_, (_, (_, (buffer, _)))). r and now buffer)
   pub unitfile-next-record : DecidesAnswer unitfile.next_record.Reads.Post
+  pub unitfile-peek : DecidesAnswer unitfile.peek.peek.Reads.Post
   pub unitfile-read-unit : DecidesAnswer unitfile.read_unit.Reads.Post
   pub unitfile-map-place : DecidesAnswer unitfile.map_place.Reads.Post
   pub unitfile-map-name : Decides unitfile.map_name.Reads.Post (λ κ r s. now r)
   pub unitfile-map-named : DecidesAnswer unitfile.map_named.Reads.Post
-  pub frame-cell-of : DecidesAnswer frame.cell_of.Reads.Post
   pub frame-scratch : DecidesAnswer frame.scratch.Reads.Post
+  pub frame-index-at : DecidesAnswer frame.hint.index_at.Reads.Post
+  pub frame-cell-at : DecidesAnswer frame.hint.cell_at.Reads.Post
+  pub frame-put-hints : Decides frame.hint.put_hints.Reads.Post (λ κ r (_, (hints, _)). now hints)
   pub frame-insert : Decides frame.insert.Reads.Post (λ κ r (variables, _). r and now variables)
   pub sort-sort : Decides sort.sort.Reads.Post (λ κ r (keys, _). now keys)
   pub flow-link : Decides flow.link.Reads.Post (λ κ r (_, (_, (_, (targets, (emitted, _))))). now targets and now emitted)
   pub survey-survey-unit : Decides survey.survey_unit.Reads.Post (λ κ r (_, (variables, (ids, (endings, _)))). r and now variables and now ids and now endings)
-  pub lower-lower-instruction : DecidesAnswer lower.lower_instruction.Reads.Post
+  pub lower-lower-instruction : Decides lower.lower_instruction.Reads.Post (λ κ r (code, _). r and now code)
   pub lower-scratch-after : DecidesAnswer lower.scratch_after.Reads.Post
   pub lower-lower-terminator : DecidesAnswer lower.lower_terminator.Reads.Post
   pub jumps-distance : DecidesAnswer jumps.distance.Reads.Post

@@ -1,3 +1,5 @@
 pub mod Instructions
 pub mod Frames
 pub mod RecordLaws
+pub mod Parts
+pub mod Checks

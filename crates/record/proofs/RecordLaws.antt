@@ -120,7 +120,7 @@ IfRead Q (Re.Record r next) = Q r next
 IfRead Q (Re.Refused f) = Unit {0}
 
 -- a choice has a property where each side has it that can come
-either : {A : Type 0} (Q : A → Type 0) (t : Bool) (x y : A) → (t ≡ true → Q x) → Q y → Q (pick t x y)
+pub either : {A : Type 0} (Q : A → Type 0) (t : Bool) (x y : A) → (t ≡ true → Q x) → Q y → Q (pick t x y)
 either Q true x y f g = f refl
 either Q false x y f g = g
 

@@ -36,3 +36,8 @@ sized b at len = both (leb 16 len) (both (leb (countAt b at) 8) (both (eqb len (
 unfoldable pub instructionAt : List ℕ → ℕ → ℕ → ℕ → ReadInstruction
 instructionAt b at len maps =
     pick (sized b at len) (joined (unsignedAt w32 b at) (opcodeOf (fieldsAt b at) maps) (operandsAt Zero b (at + 16) (countAt b at))) I.Broken
+
+-- the payload is an instruction's
+unfoldable pub isInstruction : ReadInstruction → Bool
+isInstruction (I.Is i) = true
+isInstruction I.Broken = false

@@ -42,3 +42,16 @@ payloadAt kind b at len maps =
     (pick (eqb kind 3) (pick (eqb len 4) (Is (R.Block (unsignedAt w32 b at))) Broken)
     (pick (eqb kind 4) (ofInstruction (instructionAt b at len maps))
     (pick (eqb kind 5) (ofTerminator (terminatorAt b at len)) Broken))))
+
+-- the payload obeys the rules of its kind
+unfoldable pub isPayload : Payload → Bool
+isPayload (Is r) = true
+isPayload Broken = false
+
+-- the kind of the record that has a value
+unfoldable pub kindOf : Record → ℕ
+kindOf (R.Head h) = 1
+kindOf (R.Map start len) = 2
+kindOf (R.Block id) = 3
+kindOf (R.Instruction i) = 4
+kindOf (R.Terminator t) = 5

@@ -1,7 +1,7 @@
 // One record of the unit file, read.
 mod instruction;
 pub mod payload;
-mod terminator;
+pub mod terminator;
 
 use ir::Instruction;
 use ir::Terminator;
@@ -12,7 +12,7 @@ ghost use mathlib.Core.Path.{_≡_};
 ghost use Prim.Native.Nat.{_+_};
 ghost use lib.Dec.{leb};
 ghost use Rattle.wire.specs.Pick.{pick};
-ghost use Rattle.record.specs.Record.{readRecord, refusalOf, kindDue, notDue, broken};
+ghost use Rattle.record.specs.Record.{readRecord, checkedOf, refusalOf, kindDue, notDue, broken};
 
 pub struct Head {
     pub edition: u16,
@@ -85,7 +85,7 @@ pub enum Read {
 }
 
 // Whether a record whose length is len lies whole in size bytes.
-fn whole(size: usize, at: usize, len: usize) -> bool
+pub fn whole(size: usize, at: usize, len: usize) -> bool
     ensures { λ r. ⌜ r ≡ pick (leb (at + 4) size) (leb (at + 4 + len) size) false ⌝ }
 {
     if size < 4 {
@@ -153,4 +153,28 @@ pub fn read_record(s: &[u8], at: usize, due: Due, maps: u16) -> Read
         return Read::Refused(not_due(due, at));
     }
     Read::Refused(Fault::Cut(at))
+}
+
+// A record's kind and the byte after it, or the refusal.
+pub enum Checked {
+    Next(u16, usize),
+    Refused(Fault),
+}
+
+// The same with no value made of the record.
+pub fn check_record(s: &[u8], at: usize, due: Due, maps: u16) -> Checked
+    ensures { λ r. ⌜ r ≡ checkedOf (readRecord (now (s .entry)) at due maps) ⌝ }
+{
+    let len = wire::get_u16(s, at) as usize;
+    if whole(s.len(), at, len) {
+        let kind = wire::get_u16(s, at + 2);
+        if kind_due(due, kind) {
+            if payload::payload_ok(s, kind, at + 4, len, maps) {
+                return Checked::Next(kind, at + 4 + len);
+            }
+            return Checked::Refused(broken(due, at));
+        }
+        return Checked::Refused(not_due(due, at));
+    }
+    Checked::Refused(Fault::Cut(at))
 }

@@ -1,6 +1,7 @@
 pub mod Tallies
 pub mod Flat
 pub mod Bounds
+pub mod Bytes
 pub mod Left
 pub mod Answers
 pub mod Sorted

@@ -2,8 +2,9 @@
 use mathlib.Core.Path.{_≡_, refl, sym, ap, _∙_}
 use mathlib.Core.Bool.{Bool, true, false}
 use mathlib.Core.List.{List, [], _∷_, _++_, append-nil}
-use Prim.Native.Nat.{ℕ, suc, _+_, _-_, _<_, _≤_}
+use Prim.Native.Nat.{ℕ, zero, suc, _+_, _-_, _<_, _≤_}
 use native.Mathlib.Nat.{zero-add}
+use native.Mathlib.Numerals.{sub-one}
 use native.Mathlib.Omega.{arith}
 use borrow.Author.Tests.{le-leb, lt-leb, leb-true, leb-false}
 use lib.Dec.{eqb, leb, ltb}
@@ -11,23 +12,21 @@ use lib.ListN.{length, take, drop, take-append-drop, drop-of-length-le}
 use lib.Seq.{sets, sets-eq, length-sets, length-take-le, take-all, take-at, drop-at, drop-drop}
 use Rattle.wire.specs.Pick.{pick}
 use Rattle.frame.specs.Variables.{insert, insertedAnswer, insertedList}
+use Rattle.frame.specs.Hint.{indexBy}
 use Rattle.frame.specs.declared.Inserted.the-variants as I
-use Rattle.ir.specs.Operands.{listOf, firstOf, restOf}
-use Rattle.ir.specs.declared.Instruction.{Instruction}
-use Rattle.ir.specs.declared.Operand.{Operand}
-use Rattle.ir.specs.declared.Operand.the-variants as O
-use Rattle.ir.specs.declared.operands.Head.the-variants as H
-use Rattle.ir.specs.declared.operands.Operands.{Operands}
-use Rattle.ir.proofs.OperandLaws.{first-is, first-nothing}
+use Rattle.frame.proofs.Sorted.{insert-there}
+use Rattle.frame.proofs.Hints.{index-stands}
+use Rattle.operand.specs.Operand.{operandIn, operandsIn}
 use Rattle.unitfile.specs.declared.Found.{Found}
 use Rattle.unitfile.proofs.Choice.{pick-ind}
-use Rattle.survey.specs.Occurrences.{Occurrence, ofOperand, ofOperands, ofInstruction}
+use Rattle.survey.specs.Occurrences.{Occurrence, ofOperand, ofOperands}
 use Rattle.survey.specs.Collected.{Collected, all, tooMany, collect}
 use Rattle.survey.specs.Surveyed.{variablesOf, counted}
 use Rattle.survey.specs.Inner.{used, gathered, further, Holds, Takes, tallied}
 use Rattle.survey.specs.declared.Survey.the-variants as S
 use Rattle.survey.specs.declared.occurrences.Tally.{Tally}
 use Rattle.survey.specs.declared.occurrences.Tally.the-variants as T
+use Rattle.survey.proofs.Sorted.{insert-from}
 
 -- ---- one list of occurrences after the other
 
@@ -83,6 +82,10 @@ insert-length x (y ∷ ys) =
     (λ e. (omega arith, omega arith))
     (λ e. pick-ind (Longer (y ∷ ys)) (eqb x y) _ _ (λ f. (omega arith, omega arith)) (λ f. (omega arith, omega arith)))
 
+pub at-most : {t : Tally} {l : List ℕ} {n : ℕ} → t ≡ T.Count n → Holds t l → n ≤ 56
+unfolding used
+at-most e h = let k = rw e at h in k .most
+
 module _ (l : List ℕ) (n place v : ℕ) (h : Holds (T.Count n) l) where
   abbrev w : List ℕ
   w = insert v (take n l)
@@ -91,8 +94,7 @@ module _ (l : List ℕ) (n place v : ℕ) (h : Holds (T.Count n) l) where
   Took r m = Takes (T.Count n) l (record { place = place; variable = v } ∷ []) r m
 
   within : n ≤ 56
-  unfolding used
-  within = h .most
+  within = at-most refl h
 
   front : length (take n l) ≡ n
   front = length-take-le n l (omega (arith, h .size, within))
@@ -104,10 +106,11 @@ module _ (l : List ℕ) (n place v : ℕ) (h : Holds (T.Count n) l) where
       let room : length w ≤ 56 = omega (arith, leb-true (length w) (length l) e, h .size) in
       let long : n ≤ length w = omega (arith, insert-length v (take n l) .0, front) in
       let parts : m ≡ w ++ drop k l = b ∙ sets-eq w l 0 (omega (arith, h .size)) ∙ rw (zero-add, same) in
+      let first : take k m ≡ w = ap (take k) parts ∙ take-at w (drop k l) k same in
       record {
-        holds = record { size = ap length b ∙ length-sets l 0 w ∙ h .size; most = omega arith };
+        holds = record { size = ap length b ∙ length-sets l 0 w ∙ h .size; most = omega arith; sorted = rw first (insert-from 0 v (take n l) (omega arith) (h .sorted)) };
         more = omega arith;
-        gathers = ap all (ap (take k) parts ∙ take-at w (drop k l) k same) ∙ rw (le-leb (length w) 56 room);
+        gathers = ap all first ∙ rw (le-leb (length w) 56 room);
         rest = ap (drop k) parts ∙ drop-at w (drop k l) k same;
       }
   counts-by false e k a b = let z : _≡_ {A = ℕ} 0 1 = cc in absurd (omega arith)
@@ -119,15 +122,24 @@ module _ (l : List ℕ) (n place v : ℕ) (h : Holds (T.Count n) l) where
   overflows-by : (t : Bool) → leb (length w) (length l) ≡ t → {m : List ℕ} → pick t (I.Count (length w)) I.Full ≡ I.Full → m ≡ pick t (sets l 0 w) l → Took (T.TooMany place) m
   unfolding used gathered further collect
   overflows-by true e a b = let z : _≡_ {A = ℕ} 0 1 = cc in absurd (omega arith)
-  overflows-by false e a b =
+  overflows-by false e {m} a b =
       let over : 56 < length w = omega (arith, leb-false (length w) (length l) e, h .size) in
       let whole : take n l ≡ l = take-all n l (omega (arith, insert-length v (take n l) .1, front, h .size)) in
+      let first : take 56 m ≡ take n l = ap (take 56) b ∙ take-all 56 l (omega (arith, h .size)) ∙ sym whole in
       record {
-        holds = record { size = ap length b ∙ h .size; most = omega arith };
+        holds = record { size = ap length b ∙ h .size; most = omega arith; sorted = rw first (h .sorted) };
         more = within;
         gathers = ap (tooMany place) (b ∙ sym whole) ∙ rw (lt-leb (length w) 56 over);
         rest = ap (drop 56) b;
       }
+
+  -- what stands among them already
+  pub known : (hs : List ℕ) {i : ℕ} → i ≡ indexBy (take n l) hs v → i < n → Took (T.Count n) l
+  unfolding used gathered further collect
+  known hs {i} e k =
+      let s = index-stands (take n l) hs v (omega (arith, front)) in
+      let same : w ≡ take n l = insert-there (take n l) (h .sorted) _ v (s .within) (s .holds) in
+      record { holds = h; more = omega arith; gathers = rw (same, front, le-leb n 56 within); rest = refl }
 
   pub overflows : {m : List ℕ} → insertedAnswer l n v ≡ I.Full → m ≡ insertedList l n v → Took (T.TooMany place) m
   unfolding insertedAnswer insertedList
@@ -141,18 +153,16 @@ full (T.TooMany p) place os e h = record { holds = h; more = omega arith; gather
 
 -- ---- the variables of a record
 
-pub no-more : {t : Tally} {l : List ℕ} (place : ℕ) (left : Operands) → firstOf left ≡ H.Nothing → Holds t l → Takes t l (ofOperands place (listOf left)) t l
-unfolding ofOperands
-no-more place left e h = rw (first-nothing left e) (nothing h)
+module _ (b : List ℕ) (place i : ℕ) where
+  pub no-more : {t : Tally} {l : List ℕ} (k : ℕ) → k ≤ 0 → Holds t l → Takes t l (ofOperands place (operandsIn b i k)) t l
+  unfolding ofOperands operandsIn
+  no-more zero e h = nothing h
+  no-more (suc k) e h = absurd (omega arith)
 
-module _ {t r s : Tally} {l m n : List ℕ} (place : ℕ) where
-  pub one-more : (left : Operands) (o : Operand) → firstOf left ≡ H.Is o → Takes t l (ofOperand place o) r m → Takes r m (ofOperands place (listOf (restOf left))) s n → Takes t l (ofOperands place (listOf left)) s n
-  unfolding ofOperands
-  one-more left o e a b = rw (first-is left o e) (then a b)
-
-  pub instruction : (i : Instruction) (o : Operand) → o ≡ O.Var (i .result) → Takes t l (ofOperand place o) r m → Takes r m (ofOperands place (listOf (i .operands))) s n → Takes t l (ofInstruction place i) s n
-  unfolding ofInstruction ofOperand
-  instruction i o e a b = then (rw e at a) b
+  pub one-more : {t r s : Tally} {l m n : List ℕ} (k : ℕ) → 0 < k → Takes t l (ofOperand place (operandIn b i)) r m → Takes r m (ofOperands place (operandsIn b (i + 9) (k - 1))) s n → Takes t l (ofOperands place (operandsIn b i k)) s n
+  unfolding ofOperands operandsIn
+  one-more zero e x y = absurd (omega arith)
+  one-more (suc k) e x y = then x (rw sub-one at y)
 
 -- ---- the end
 

@@ -1,13 +1,20 @@
 -- What the crate's own functions answer, while the pass goes on.
 use Prim.Native.Nat.{ℕ, _+_, _≤_}
 use mathlib.Core.Path.{_≡_}
-use mathlib.Core.List.{List, [], _∷_}
+use mathlib.Core.List.{List, [], _∷_, _++_}
+use lib.Dec.{eqb}
 use lib.ListN.{length, take, drop}
 use lib.Seq.{sets}
+use mir.Syntax.{w32}
+use Rattle.wire.specs.Pick.{pick}
+use Rattle.wire.specs.Le.{byteAt, unsignedAt}
+use Rattle.ir.specs.declared.Operand.the-variants.{Var}
+use Rattle.operand.specs.Operand.{operandIn, operandsIn}
+use Rattle.frame.proofs.Sorted.{Sorted}
 use Rattle.record.specs.declared.Record.{Record}
 use Rattle.record.specs.declared.Record.the-variants as R
 use Rattle.unitfile.specs.declared.Found.{Found}
-use Rattle.survey.specs.Occurrences.{Occurrence, ofInstruction, ofTerminator}
+use Rattle.survey.specs.Occurrences.{Occurrence, ofOperand, ofOperands, ofInstruction, ofTerminator}
 use Rattle.survey.specs.Collected.{Collected, all, tooMany, collect}
 use Rattle.survey.specs.declared.Survey.{Survey}
 use Rattle.survey.specs.declared.Survey.the-variants as S
@@ -33,6 +40,7 @@ further (tooMany place variables) os = tooMany place variables
 pub record Holds (t : Tally) (l : List ℕ) : Type 0 where
   pub size : length l ≡ 56
   pub most : used t ≤ 56
+  pub sorted : Sorted (take (used t) l)
 
 -- the variables that os name are put among those of the tally t and the list l, the rest of which is as it was
 pub record Takes (t : Tally) (l : List ℕ) (os : List Occurrence) (r : Tally) (m : List ℕ) : Type 0 where
@@ -68,9 +76,26 @@ atEnd x (R.Block id) = []
 atEnd x (R.Instruction i) = []
 atEnd x (R.Terminator t) = x ∷ []
 
-pub record Passes (place : ℕ) (value : Record) (g : Going) (vs is es : List ℕ) (r : Going) (vs′ is′ es′ : List ℕ) : Type 0 where
-  pub takes : Takes (g .tally) vs (ofRecord place value) (r .tally) vs′
-  pub id : r .id ≡ idAfter (g .id) value
-  pub block : r .block ≡ g .block + length (atEnd place value)
-  pub ids : is′ ≡ sets is (g .block) (atEnd (g .id) value)
-  pub endings : es′ ≡ sets es (g .block) (atEnd place value)
+-- ---- the same by the bytes of a record, whose kind is known: 3 block, 4 instruction, 5 terminator
+
+unfoldable pub ofInstructionIn : List ℕ → ℕ → List Occurrence
+ofInstructionIn b place = ofOperand place (Var (unsignedAt w32 b (place + 4))) ++ ofOperands place (operandsIn b (place + 20) (byteAt b (place + 10)))
+
+unfoldable pub ofTerminatorIn : List ℕ → ℕ → List Occurrence
+ofTerminatorIn b place = pick (eqb (byteAt b (place + 4)) 1) [] (ofOperand place (operandIn b (place + 5)))
+
+unfoldable pub ofRecordIn : List ℕ → ℕ → ℕ → List Occurrence
+ofRecordIn b place kind = pick (eqb kind 3) [] (pick (eqb kind 4) (ofInstructionIn b place) (ofTerminatorIn b place))
+
+unfoldable pub idAfterIn : ℕ → List ℕ → ℕ → ℕ → ℕ
+idAfterIn id b place kind = pick (eqb kind 3) (unsignedAt w32 b (place + 4)) id
+
+unfoldable pub atEndIn : ℕ → ℕ → List ℕ
+atEndIn x kind = pick (eqb kind 3) [] (pick (eqb kind 4) [] (x ∷ []))
+
+pub record Passes (b : List ℕ) (place kind : ℕ) (g : Going) (vs is es : List ℕ) (r : Going) (vs′ is′ es′ : List ℕ) : Type 0 where
+  pub takes : Takes (g .tally) vs (ofRecordIn b place kind) (r .tally) vs′
+  pub id : r .id ≡ idAfterIn (g .id) b place kind
+  pub block : r .block ≡ g .block + length (atEndIn place kind)
+  pub ids : is′ ≡ sets is (g .block) (atEndIn (g .id) kind)
+  pub endings : es′ ≡ sets es (g .block) (atEndIn place kind)

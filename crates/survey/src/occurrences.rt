@@ -1,15 +1,14 @@
-// The variables that a record names, put among those that were collected.
+// The variables that a record names, read from its bytes and put among those that were collected.
 use frame::Inserted;
-use ir::Instruction;
+use frame::hint;
 use ir::Operand;
-use ir::Terminator;
-use ir::operands;
-use ir::operands::Head;
-use ir::operands::Operands;
 ghost use mathlib.Core.Path.{_≡_};
-ghost use Rattle.ir.specs.Operands.{listOf};
-ghost use Rattle.survey.specs.Occurrences.{ofOperand, ofOperands, ofInstruction, ofTerminator};
-ghost use Rattle.survey.specs.Inner.{Holds, Takes};
+ghost use Prim.Native.Nat.{_+_, _≤_, _<_};
+ghost use lib.ListN.{take};
+ghost use Rattle.frame.specs.Hint.{indexBy};
+ghost use Rattle.operand.specs.Operand.{operandIn, operandsIn};
+ghost use Rattle.survey.specs.Occurrences.{ofOperand, ofOperands};
+ghost use Rattle.survey.specs.Inner.{Holds, Takes, ofInstructionIn, ofTerminatorIn};
 
 // How many variables the lent array holds, or the place of the record that brought the 57th.
 pub enum Tally {
@@ -17,75 +16,123 @@ pub enum Tally {
     TooMany(usize),
 }
 
-// Once a 57th variable came, nothing is inserted any more.
-fn with_operand(variables: &mut [u32; 56], tally: Tally, place: usize, o: Operand) -> Tally
-    requires { ⌜ Holds tally (now variables) ⌝ }
-    ensures { λ r. ⌜ Takes tally (now (variables .entry)) (ofOperand place o) r (now (variables .exit)) ⌝ }
+// Where v stands among the first n, or n for nowhere.
+fn index(variables: &[u32; 56], hints: &[u8; 256], n: usize, v: u32) -> usize
+    requires { ⌜ n ≤ 56 ⌝ }
+    ensures { λ r. ⌜ r ≡ indexBy (take n (now (variables .entry))) (now (hints .entry)) v ⌝ }
 {
-    let Operand::Var(v) = o else {
-        return tally;
-    };
+    let all = &variables[..];
+    hint::index_at(&all[0..n], hints, v)
+}
+
+// A table for the first n: nothing rests on what it guesses.
+fn guess_anew(variables: &[u32; 56], hints: &mut [u8; 256], n: usize)
+    requires { ⌜ n ≤ 56 ⌝ }
+{
+    let all = &variables[..];
+    hint::put_hints(&all[0..n], hints);
+}
+
+// Once a 57th variable came, nothing is inserted any more. What is there already is found by its guessed index.
+fn with_variable(
+    variables: &mut [u32; 56],
+    hints: &mut [u8; 256],
+    tally: Tally,
+    place: usize,
+    v: u32,
+) -> Tally
+    requires { ⌜ Holds tally (now variables) ⌝ }
+    ensures { λ r. ⌜ Takes tally (now (variables .entry)) (ofOperand place (Operand.Var v)) r (now (variables .exit)) ⌝ }
+{
     let Tally::Count(n) = tally else {
         return tally;
     };
+    if index(variables, hints, n, v) < n {
+        return tally;
+    }
     match frame::insert(variables, n, v) {
-        Inserted::Count(more) => Tally::Count(more),
+        Inserted::Count(more) => {
+            guess_anew(variables, hints, more);
+            Tally::Count(more)
+        }
         Inserted::Full => Tally::TooMany(place),
     }
 }
 
-fn with_operands(variables: &mut [u32; 56], tally: Tally, place: usize, list: Operands) -> Tally
+// The operand at byte i.
+fn with_operand(
+    s: &[u8],
+    variables: &mut [u32; 56],
+    hints: &mut [u8; 256],
+    tally: Tally,
+    place: usize,
+    i: usize,
+) -> Tally
     requires { ⌜ Holds tally (now variables) ⌝ }
-    ensures { λ r. ⌜ Takes tally (now (variables .entry)) (ofOperands place (listOf list)) r (now (variables .exit)) ⌝ }
+    ensures { λ r. ⌜ Takes tally (now (variables .entry)) (ofOperand place (operandIn (now (s .entry)) i)) r (now (variables .exit)) ⌝ }
+{
+    let Operand::Var(v) = operand::operand_in(s, i) else {
+        return tally;
+    };
+    with_variable(variables, hints, tally, place, v)
+}
+
+// The operands of the instruction at a place, nine bytes each.
+fn with_operands(
+    s: &[u8],
+    variables: &mut [u32; 56],
+    hints: &mut [u8; 256],
+    tally: Tally,
+    place: usize,
+    count: u8,
+) -> Tally
+    requires { ⌜ Holds tally (now variables) ⌝ }
+    requires { ⌜ place < 4294967296 ⌝ }
+    ensures { λ r. ⌜ Takes tally (now (variables .entry)) (ofOperands place (operandsIn (now (s .entry)) (place + 20) count)) r (now (variables .exit)) ⌝ }
 {
     let mut counted = tally;
-    let mut left = list;
-    loop {
-        let Head::Is(o) = operands::first(left) else {
-            return counted;
-        };
-        counted = with_operand(variables, counted, place, o);
-        left = operands::rest(left);
+    let mut i = place + 20;
+    let mut left = count;
+    while 0 < left {
+        counted = with_operand(s, variables, hints, counted, place, i);
+        i += 9;
+        left -= 1;
     }
+    counted
 }
 
-// The result of every instruction is a variable, a Store's too.
-fn result(i: Instruction) -> Operand
-    ensures { λ r. ⌜ r ≡ Operand.Var (i .result) ⌝ }
-{
-    Operand::Var(i.result)
-}
-
+// The result, which every instruction has, a Store too; then the operands.
 pub(crate) fn with_instruction(
+    s: &[u8],
     variables: &mut [u32; 56],
+    hints: &mut [u8; 256],
     tally: Tally,
     place: usize,
-    i: Instruction,
 ) -> Tally
     requires { ⌜ Holds tally (now variables) ⌝ }
-    ensures { λ r. ⌜ Takes tally (now (variables .entry)) (ofInstruction place i) r (now (variables .exit)) ⌝ }
+    requires { ⌜ place < 4294967296 ⌝ }
+    ensures { λ r. ⌜ Takes tally (now (variables .entry)) (ofInstructionIn (now (s .entry)) place) r (now (variables .exit)) ⌝ }
 {
-    let list = i.operands;
-    let counted = with_operand(variables, tally, place, result(i));
-    with_operands(variables, counted, place, list)
+    let result = wire::get_u32(s, place + 4);
+    let counted = with_variable(variables, hints, tally, place, result);
+    let count = wire::get_u8(s, place + 10);
+    with_operands(s, variables, hints, counted, place, count)
 }
 
+// A jump, form 1, names none.
 pub(crate) fn with_terminator(
+    s: &[u8],
     variables: &mut [u32; 56],
+    hints: &mut [u8; 256],
     tally: Tally,
     place: usize,
-    t: Terminator,
 ) -> Tally
     requires { ⌜ Holds tally (now variables) ⌝ }
-    ensures { λ r. ⌜ Takes tally (now (variables .entry)) (ofTerminator place t) r (now (variables .exit)) ⌝ }
+    requires { ⌜ place < 4294967296 ⌝ }
+    ensures { λ r. ⌜ Takes tally (now (variables .entry)) (ofTerminatorIn (now (s .entry)) place) r (now (variables .exit)) ⌝ }
 {
-    match t {
-        Terminator::Return(o) => with_operand(variables, tally, place, o),
-        Terminator::Jump(_) => tally,
-        Terminator::Branch {
-            condition,
-            true_block: _,
-            false_block: _,
-        } => with_operand(variables, tally, place, condition),
+    if wire::get_u8(s, place + 4) == 1 {
+        return tally;
     }
+    with_operand(s, variables, hints, tally, place, place + 5)
 }

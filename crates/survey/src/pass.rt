@@ -3,18 +3,17 @@ use crate::Survey;
 use crate::occurrences;
 use crate::occurrences::Tally;
 use record::Head;
-use record::Record;
 use unitfile::Cursor;
 use unitfile::Found;
 use unitfile::ReadUnit;
-use unitfile::Step;
+use unitfile::peek;
 ghost use mathlib.Core.Path.{_≡_};
 ghost use Prim.Native.Nat.{_+_, _≤_, _<_};
 ghost use lib.ListN.{length};
 ghost use Rattle.unitfile.specs.Unit.{readUnit, parse};
 ghost use Rattle.survey.specs.Collected.{collected};
 ghost use Rattle.survey.specs.Surveyed.{blocksOf, counted, surveyedVariables, surveyedIds, surveyedEndings};
-ghost use Rattle.survey.specs.Inner.{Holds, atEnd, Passes, tallied};
+ghost use Rattle.survey.specs.Inner.{Holds, atEndIn, Passes, tallied};
 
 // Where the pass stands: the tally, how many blocks have ended, and the id of the block that has begun.
 pub struct Going {
@@ -23,43 +22,44 @@ pub struct Going {
     pub id: u32,
 }
 
+// A block record, kind 3, begins a block; an instruction, kind 4, names variables; a terminator ends the block.
 fn on_record(
+    s: &[u8],
     variables: &mut [u32; 56],
+    hints: &mut [u8; 256],
     ids: &mut [u32; 1024],
     endings: &mut [u32; 1024],
     g: Going,
     place: usize,
-    value: Record,
+    kind: u16,
 ) -> Going
     requires { ⌜ Holds (g .tally) (now variables) ⌝ }
-    requires { ⌜ (g .block + length (atEnd place value) ≤ 1024) × (place < 4294967296) ⌝ }
-    ensures { λ r. ⌜ Passes place value g (now (variables .entry)) (now (ids .entry)) (now (endings .entry)) r (now (variables .exit)) (now (ids .exit)) (now (endings .exit)) ⌝ }
+    requires { ⌜ (g .block + length (atEndIn place kind) ≤ 1024) × (place < 4294967296) ⌝ }
+    ensures { λ r. ⌜ Passes (now (s .entry)) place kind g (now (variables .entry)) (now (ids .entry)) (now (endings .entry)) r (now (variables .exit)) (now (ids .exit)) (now (endings .exit)) ⌝ }
 {
     let tally = g.tally;
     let block = g.block;
-    match value {
-        Record::Block(id) => Going {
+    if kind == 3 {
+        return Going {
             tally: tally,
             block: block,
-            id: id,
-        },
-        Record::Instruction(i) => Going {
-            tally: occurrences::with_instruction(variables, tally, place, i),
+            id: wire::get_u32(s, place + 4),
+        };
+    }
+    if kind == 4 {
+        return Going {
+            tally: occurrences::with_instruction(s, variables, hints, tally, place),
             block: block,
             id: g.id,
-        },
-        Record::Terminator(t) => {
-            let counted = occurrences::with_terminator(variables, tally, place, t);
-            ids[block] = g.id;
-            endings[block] = place as u32;
-            Going {
-                tally: counted,
-                block: block + 1,
-                id: g.id,
-            }
-        }
-        Record::Head(_) => g,
-        Record::Map { start: _, len: _ } => g,
+        };
+    }
+    let counted = occurrences::with_terminator(s, variables, hints, tally, place);
+    ids[block] = g.id;
+    endings[block] = place as u32;
+    Going {
+        tally: counted,
+        block: block + 1,
+        id: g.id,
     }
 }
 
@@ -88,7 +88,6 @@ pub(crate) fn survey_blocks(
     ensures { λ _. ⌜ now (endings .exit) ≡ surveyedEndings (now (unit .entry)) (now (endings .entry)) ⌝ }
 {
     let head = found.head;
-    let maps = head.maps;
     let mut c = Cursor {
         at: found.body,
         blocks: head.blocks,
@@ -99,13 +98,15 @@ pub(crate) fn survey_blocks(
         block: 0,
         id: 0,
     };
+    let mut hints = [0u8; 256];
     loop {
         let place = c.at;
-        let Step::Go(value, next) = unitfile::next_record(unit, maps, c) else {
+        let p = peek::peek(unit, c);
+        if p.kind == 0 {
             let tally = g.tally;
             return answer(found, tally);
-        };
-        g = on_record(variables, ids, endings, g, place, value);
-        c = next;
+        }
+        g = on_record(unit, variables, &mut hints, ids, endings, g, place, p.kind);
+        c = p.next;
     }
 }

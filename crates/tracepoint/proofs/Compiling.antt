@@ -14,10 +14,10 @@ use Rattle.unitfile.specs.declared.Found.{Found}
 use Rattle.unitfile.specs.declared.ReadUnit.the-variants as U
 use Rattle.unitfile.proofs.Units.{unit-of}
 use Rattle.unitfile.proofs.Whole.{refused-whole}
+use Rattle.flow.specs.Computed.{isReached}
 use Rattle.survey.specs.Collected.{collected}
 use Rattle.survey.specs.Surveyed.{blocksOf}
 use Rattle.survey.proofs.Answers.{IsTooMany}
-use Rattle.flow.specs.Computed.{isReached}
 use Rattle.lower.specs.Op.{Op, slotsOf}
 use Rattle.lower.specs.declared.Reason.{Reason}
 use Rattle.layout.specs.Emitted.{nodes, emitted}
@@ -29,11 +29,13 @@ use Rattle.layout.specs.Inner as layout
 use Rattle.layout.proofs.Keep.{keep-by}
 use Rattle.layout.proofs.Located.{edges-count}
 use Rattle.layout.proofs.Written.{relocations-count}
+use Rattle.jumps.specs.Landed.{marked, landedOf, landedFrom}
+use Rattle.jumps.specs.declared.Landed.{Landed}
+use Rattle.jumps.specs.declared.Landed.the-variants as L
 use Rattle.tracepoint.specs.Compile.{Lowering, faulty, onLanding, onLaid, onCollected, lowering, loweringOf, roomed, compileAnswer, codeOf, relocsOf, front, compileCode, compileRelocs}
 use Rattle.tracepoint.specs.Inner.{contextOf}
 use Rattle.tracepoint.specs.Notes.{Noted}
 use Rattle.tracepoint.specs.Tables.{sizeOf, Measured, Tables, unitLanding, Room}
-use Rattle.jumps.specs.Landed.{marked, landedOf, landedFrom}
 use Rattle.tracepoint.specs.Stages.{Surveyed, Linked, Ready, loweringBy, loweredBy, Answers}
 use Rattle.tracepoint.specs.declared.Fault.{Fault}
 use Rattle.tracepoint.specs.declared.Fault.the-variants as F
@@ -41,8 +43,6 @@ use Rattle.tracepoint.specs.declared.Compiled.{Compiled}
 use Rattle.tracepoint.specs.declared.Compiled.the-variants as A
 use Rattle.tracepoint.specs.declared.measure.Size.{Size}
 use Rattle.tracepoint.specs.declared.measure.Size.the-variants as S
-use Rattle.jumps.specs.declared.Landed.{Landed}
-use Rattle.jumps.specs.declared.Landed.the-variants as L
 use Rattle.tracepoint.proofs.Conditions.{context-is}
 use Rattle.tracepoint.proofs.Tables.{stored-at}
 use Rattle.tracepoint.proofs.Landing.{landed-unit}
@@ -92,7 +92,7 @@ unfolding onCollected
 when-too-many {b} {place} m code relocs = at-fault code relocs (read-lowering b (m .found) (m .read) ∙ ap (onCollected (blocksOf (parse b))) (m .collects))
 
 -- by the tables: the variables' marks tell the conditions, and the flags which blocks are emitted
-module _ (n : ℕ) {b : List ℕ} {found : Found} {vs is es cs ts ms counts named em numbers : List ℕ} (s : Surveyed b found vs is es) (k : Noted (blocksOf (parse b)) vs (replicate n 0) cs ts ms counts named) (l : Linked (blocksOf (parse b)) em numbers es counts named) where
+module _ (n : ℕ) (hs : List ℕ) {b : List ℕ} {found : Found} {vs is es cs ts ms counts named em numbers : List ℕ} (s : Surveyed b found vs is es) (k : Noted (blocksOf (parse b)) vs (replicate n 0) cs ts ms counts named) (l : Linked (blocksOf (parse b)) em numbers es counts named) where
   abbrev bs : List BasicBlock
   bs = blocksOf (parse b)
 
@@ -100,12 +100,12 @@ module _ (n : ℕ) {b : List ℕ} {found : Found} {vs is es cs ts ms counts name
   unfolding emitted
   kept = keep-by (marked em) (isReached (nodes bs)) 0 bs (record { at = λ i h. ap (marked em) (zero-add i) ∙ l .agrees i h })
 
-  pub tables-lowering : loweringOf (parse b) ≡ loweringBy (contextOf vs ms) (marked em) bs
+  pub tables-lowering : loweringOf (parse b) ≡ loweringBy (contextOf vs hs ms) (marked em) bs
   unfolding onCollected
   tables-lowering =
       read-lowering b found (s .read) ∙ ap (onCollected bs) (s .collects)
-      ∙ ap (λ (c : Context). onLaid c (emitted bs) (unitOps c (emitted bs))) (sym (context-is bs vs (s .collects) n k))
-      ∙ ap (λ (ks : List BasicBlock). onLaid (contextOf vs ms) ks (unitOps (contextOf vs ms) ks)) (sym kept)
+      ∙ ap (λ (c : Context). onLaid c (emitted bs) (unitOps c (emitted bs))) (sym (context-is bs vs (s .collects) n k hs))
+      ∙ ap (λ (ks : List BasicBlock). onLaid (contextOf vs hs ms) ks (unitOps (contextOf vs hs ms) ks)) (sym kept)
 
 -- ---- the measuring
 

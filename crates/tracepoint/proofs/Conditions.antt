@@ -1,5 +1,5 @@
 -- The marks that the terminators leave are the branch conditions of the definitions: what lowering is told is the same.
-use mathlib.Core.Path.{_≡_, refl, ap, _∙_}
+use mathlib.Core.Path.{_≡_, refl, sym, ap, _∙_}
 use mathlib.Core.Bool.{Bool, true, false}
 use mathlib.Core.List.{List, [], _∷_, List·Memᴰ, List·Memᴰ·head, List·Memᴰ·tail, List·Memᴰ·cases-cons, List·Memᴰ·not-nil}
 use mathlib.Core.Logic.{⊎-elim}
@@ -15,15 +15,18 @@ use Rattle.ir.specs.declared.Terminator.{Terminator}
 use Rattle.ir.specs.declared.Terminator.the-variants.{Return, Jump, Branch}
 use Rattle.unitfile.specs.Unit.{BasicBlock}
 use Rattle.frame.specs.Cell.{frameOf}
+use Rattle.frame.specs.Hint.{indexBy}
+use Rattle.frame.proofs.Hints.{index-by, frame-by}
 use Rattle.flow.specs.Node.{among}
 use Rattle.survey.specs.Collected.{collected, all}
 use Rattle.survey.specs.Conditions.{isVar, branchesOn, isCondition}
 use Rattle.survey.proofs.Among.{condition-among}
+use Rattle.survey.proofs.Sorted.{all-fits}
 use Rattle.layout.specs.Layout.{Context}
 use Rattle.jumps.specs.Landed.{marked}
-use Rattle.tracepoint.specs.Inner.{conditionFrom}
+use Rattle.tracepoint.specs.Inner.{conditionFrom, conditionAt, contextOf}
 use Rattle.tracepoint.specs.Notes.{Noted}
-use Rattle.tracepoint.proofs.Marks.{both-false}
+use Rattle.tracepoint.proofs.Marks.{both-false, condition-at}
 
 -- ---- a condition is a variable of the unit
 
@@ -96,12 +99,18 @@ module _ (bs : List BasicBlock) (vs : List ℕ) (e : collected bs ≡ all vs) wh
   only-among v false h = both-false (among v vs)
 
   module _ (n : ℕ) {cs ts ms′ cs′ ts′ : List ℕ} (k : Noted bs vs (replicate n 0) cs ts ms′ cs′ ts′) where
-    pub condition-is : (v : ℕ) → conditionFrom 0 vs ms′ v ≡ isCondition bs v
+    condition-is : (v : ℕ) → conditionFrom 0 vs ms′ v ≡ isCondition bs v
     condition-is v =
         k .marks v
         ∙ ap (λ (t : Bool). either t (both (among v vs) (isCondition bs v))) (unmarked n 0 vs v)
         ∙ only-among v (isCondition bs v) refl
 
+    condition-guessed : (hs : List ℕ) (v : ℕ) → conditionAt vs ms′ (indexBy vs hs v) ≡ isCondition bs v
+    condition-guessed hs v =
+        ap (λ (f : ℕ → ℕ). conditionAt vs ms′ (f v)) (index-by vs hs (all-fits bs vs e .sorted))
+        ∙ sym (condition-at vs ms′ v)
+        ∙ condition-is v
+
     -- what lowering is told
-    pub context-is : _≡_ {A = Context} (record { frame = frameOf vs; condition = conditionFrom 0 vs ms′ }) (record { frame = frameOf vs; condition = isCondition bs })
-    context-is = λ i. record { frame = frameOf vs; condition = λ v. condition-is v i }
+    pub context-is : (hs : List ℕ) → _≡_ {A = Context} (contextOf vs hs ms′) (record { frame = frameOf vs; condition = isCondition bs })
+    context-is hs = λ i. record { frame = frame-by vs hs (all-fits bs vs e .sorted) i; condition = λ v. condition-guessed hs v i }

@@ -1,7 +1,9 @@
 pub mod Flat
 pub mod Steps
+pub mod Seen
 pub mod Marks
 pub mod Lists
+pub mod Plain
 pub mod Noting
 pub mod Conditions
 pub mod Measuring

@@ -3,42 +3,48 @@ use mathlib.Core.Path.{_≡_, refl, sym, ap, _∙_}
 use mathlib.Core.Bool.{Bool, true, false}
 use mathlib.Core.List.{List, [], _∷_}
 use Prim.Native.Nat.{ℕ, suc, _+_, _<_, _≤_}
+use native.Mathlib.Nat.{zero-add}
 use native.Mathlib.Omega.{arith}
-use borrow.Author.Tests.{eqb-true, eqb-false, eq-eqb, ne-eqb}
-use lib.Dec.{eqb}
-use lib.ListN.{length, getD, set, drop, drop-of-length-le}
-use lib.Seq.{getD-set-same, getD-set-other, drop-cons}
+use borrow.Author.Tests.{eqb-true, eqb-false, eq-eqb, ne-eqb, lt-ltb, le-ltb}
+use lib.Dec.{eqb, ltb}
+use lib.ListN.{length, getD, set}
+use lib.Seq.{getD-set-same, getD-set-other}
 use Rattle.wire.specs.Pick.{pick, both, either}
+use Rattle.frame.specs.Hint.{indexFrom}
 use Rattle.flow.specs.Node.{among}
 use Rattle.jumps.specs.Landed.{marked}
-use Rattle.tracepoint.specs.Inner.{conditionFrom, markFrom}
+use Rattle.tracepoint.specs.Inner.{conditionFrom, markFrom, conditionAt, markAt}
 
--- ---- searching from the front
+-- ---- by the variable's index
 
-module _ (vs marks : List ℕ) (v i : ℕ) where
-  pub condition-here : i < length vs → v ≡ getD vs i 0 → conditionFrom i (drop i vs) marks v ≡ marked marks i
-  unfolding conditionFrom
-  condition-here h e = rw (drop-cons vs i 0 h, eq-eqb v (getD vs i 0) e)
+condition-step : (i : ℕ) (xs marks : List ℕ) (v : ℕ) (t : Bool) → conditionFrom (suc i) xs marks v ≡ pick (ltb (indexFrom (suc i) xs v) (suc i + length xs)) (marked marks (indexFrom (suc i) xs v)) false
+    → pick t (marked marks i) (conditionFrom (suc i) xs marks v) ≡ pick (ltb (pick t i (indexFrom (suc i) xs v)) (i + suc (length xs))) (marked marks (pick t i (indexFrom (suc i) xs v))) false
+condition-step i xs marks v true h = rw (lt-ltb i (i + suc (length xs)) (omega arith))
+condition-step i xs marks v false h = let n : suc i + length xs ≡ i + suc (length xs) = omega arith in rw (← n) h
 
-  pub condition-further : i < length vs → (v ≡ getD vs i 0 → ⊥) → conditionFrom i (drop i vs) marks v ≡ conditionFrom (suc i) (drop (suc i) vs) marks v
-  unfolding conditionFrom
-  condition-further h n = rw (drop-cons vs i 0 h, ne-eqb v (getD vs i 0) n)
+condition-from : (i : ℕ) (xs marks : List ℕ) (v : ℕ) → conditionFrom i xs marks v ≡ pick (ltb (indexFrom i xs v) (i + length xs)) (marked marks (indexFrom i xs v)) false
+unfolding conditionFrom indexFrom
+condition-from i [] marks v = rw (le-ltb i (i + 0) (omega arith))
+condition-from i (x ∷ xs) marks v = condition-step i xs marks v (eqb v x) (condition-from (suc i) xs marks v)
 
-  pub condition-none : length vs ≤ i → conditionFrom i (drop i vs) marks v ≡ false
-  unfolding conditionFrom
-  condition-none h = rw (drop-of-length-le vs {i = i} h)
+mark-step : (i : ℕ) (xs marks : List ℕ) (v : ℕ) (t : Bool) → markFrom (suc i) xs marks v ≡ pick (ltb (indexFrom (suc i) xs v) (suc i + length xs)) (set marks (indexFrom (suc i) xs v) 1) marks
+    → pick t (set marks i 1) (markFrom (suc i) xs marks v) ≡ pick (ltb (pick t i (indexFrom (suc i) xs v)) (i + suc (length xs))) (set marks (pick t i (indexFrom (suc i) xs v)) 1) marks
+mark-step i xs marks v true h = rw (lt-ltb i (i + suc (length xs)) (omega arith))
+mark-step i xs marks v false h = let n : suc i + length xs ≡ i + suc (length xs) = omega arith in rw (← n) h
 
-  pub mark-here : i < length vs → v ≡ getD vs i 0 → markFrom i (drop i vs) marks v ≡ set marks i 1
-  unfolding markFrom
-  mark-here h e = rw (drop-cons vs i 0 h, eq-eqb v (getD vs i 0) e)
+mark-from : (i : ℕ) (xs marks : List ℕ) (v : ℕ) → markFrom i xs marks v ≡ pick (ltb (indexFrom i xs v) (i + length xs)) (set marks (indexFrom i xs v) 1) marks
+unfolding markFrom indexFrom
+mark-from i [] marks v = rw (le-ltb i (i + 0) (omega arith))
+mark-from i (x ∷ xs) marks v = mark-step i xs marks v (eqb v x) (mark-from (suc i) xs marks v)
 
-  pub mark-further : i < length vs → (v ≡ getD vs i 0 → ⊥) → markFrom i (drop i vs) marks v ≡ markFrom (suc i) (drop (suc i) vs) marks v
-  unfolding markFrom
-  mark-further h n = rw (drop-cons vs i 0 h, ne-eqb v (getD vs i 0) n)
+module _ (vs marks : List ℕ) (v : ℕ) where
+  pub condition-at : conditionFrom 0 vs marks v ≡ conditionAt vs marks (indexFrom 0 vs v)
+  unfolding conditionAt
+  condition-at = condition-from 0 vs marks v ∙ ap (λ (n : ℕ). pick (ltb (indexFrom 0 vs v) n) (marked marks (indexFrom 0 vs v)) false) (zero-add (length vs))
 
-  pub mark-none : length vs ≤ i → markFrom i (drop i vs) marks v ≡ marks
-  unfolding markFrom
-  mark-none h = rw (drop-of-length-le vs {i = i} h)
+  pub mark-at : markFrom 0 vs marks v ≡ markAt vs marks (indexFrom 0 vs v)
+  unfolding markAt
+  mark-at = mark-from 0 vs marks v ∙ ap (λ (n : ℕ). pick (ltb (indexFrom 0 vs v) n) (set marks (indexFrom 0 vs v) 1) marks) (zero-add (length vs))
 
 -- ---- a mark more
 

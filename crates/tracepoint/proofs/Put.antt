@@ -1,43 +1,50 @@
 -- Code and relocations written piece by piece.
 use mathlib.Core.Path.{_≡_, refl, sym, ap, _∙_, subst}
-use mathlib.Core.Bool.{Bool, true, false}
+use mathlib.Core.Bool.{true}
 use mathlib.Core.List.{List, [], _∷_, _++_}
-use Prim.Native.Nat.{ℕ, suc, _+_, _*_, _^_, _<_, _≤_}
+use Prim.Native.Nat.{ℕ, suc, _+_, _*_, _^_, _≤_}
 use native.Mathlib.Omega.{arith}
 use native.Mathlib.Numerals.{add-one, add-two}
 use borrow.Author.Tests.{ltb-true}
 use lib.IntN.{ℤ}
 use lib.Signed.{mag}
-use lib.ListN.{length, getD, take, drop, length-take, drop-of-length-le}
-use lib.Seq.{sets, drop-cons, getD-take, length-take-le}
+use lib.ListN.{length}
+use lib.Seq.{sets, length-sets}
 use mir.Syntax.{w16, w64}
 use mir.Val.{SFits}
+use Rattle.wire.specs.Number.{bytesBefore}
+use Rattle.wire.proofs.Store.{store-in}
+use Rattle.ir.specs.declared.Terminator.{Terminator}
 use Rattle.insn.specs.Form.{opcodeOf}
+use Rattle.insn.specs.Layout.{bytesOf}
 use Rattle.insn.specs.declared.Insn.{Insn}
 use Rattle.insn.specs.declared.form.Form.the-variants.{Ja, JneImm}
-use Rattle.ir.specs.declared.Instruction.{Instruction}
-use Rattle.ir.specs.declared.Terminator.{Terminator}
-use Rattle.record.specs.declared.Record.{Record}
-use Rattle.record.specs.declared.Record.the-variants as R
+use Rattle.insn.proofs.Pieces.{bytes-length}
 use Rattle.opcode.proofs.Opcodes.{both-true}
-use Rattle.lower.specs.Op.{plain, map, ja, jne, slotsOf, Lowered, becomes, refused}
+use Rattle.record.specs.Terminator.{terminatorIn}
+use Rattle.lower.specs.Op.{Op, plain, ja, jne, slotsOf, Lowered, becomes, refused}
 use Rattle.lower.specs.Operand.{fits16}
-use Rattle.lower.specs.Instruction.{instruction}
+use Rattle.lower.specs.Step.{mapOps}
+use Rattle.lower.specs.Held.{mapIn, endingOps, held}
 use Rattle.lower.specs.Terminator.{terminator}
-use Rattle.lower.specs.Step.{all, mapOps}
-use Rattle.lower.specs.Held.{zeroInsn, held, endingOps}
-use Rattle.lower.specs.declared.Emitted.{Emitted}
 use Rattle.lower.specs.declared.Ending.{Ending}
-use Rattle.layout.specs.Layout.{Context, at, ops}
+use Rattle.lower.specs.declared.MapUse.the-variants as U
+use Rattle.lower.specs.Put.{wideInsn, zeroInsn, insnsIn, putAt, putLowered}
+use Rattle.lower.specs.declared.Emitted.{Emitted}
+use Rattle.layout.specs.Layout.{Context, laid, at, ops}
 use Rattle.layout.specs.Jumps.{distance}
 use Rattle.layout.specs.Code.{codeBytes, relocations}
-use Rattle.layout.specs.Inner.{plainOps, made, mapsOf}
-use Rattle.layout.proofs.Tidy.{made-is}
+use Rattle.layout.specs.Inner.{plainOps, mapsOf}
+use Rattle.layout.proofs.Tidy.{Tidy}
 use Rattle.layout.proofs.Written.{code-append, code-length}
-use Rattle.tracepoint.specs.Inner.{becoming, recordOps}
+use Rattle.tracepoint.specs.Seen.{partsIn, instructionBy, opsIn}
+use Rattle.tracepoint.specs.declared.parts.Parts.{Parts}
 use Rattle.tracepoint.specs.declared.walk.State.{State}
-use Rattle.tracepoint.specs.Put.{insnsTo, jumpOf, reaches, Puts}
+use Rattle.tracepoint.specs.Tables.{relocsBy}
+use Rattle.tracepoint.specs.Put.{insnsTo, jumpOf, reaches, relocationsBy, RoomAt, Relocates, Puts}
 use Rattle.tracepoint.proofs.Lists.{sets-append}
+use Rattle.tracepoint.proofs.Plain.{plain-slots, plain-maps}
+use Rattle.tracepoint.proofs.Seen.{Shows}
 
 -- ---- instructions
 
@@ -50,17 +57,17 @@ joined b s s′ is js e f g =
     ∙ sym (sets-append b (8 * s) (codeBytes is) (codeBytes js))
     ∙ ap (sets b (8 * s)) (sym (code-append is js))
 
--- the next of the first n instructions
-pub next-of : (b : List ℕ) (list : List Insn) (n i s : ℕ) {c : List ℕ} → n ≤ length list → i < n → c ≡ sets b (8 * s) (codeBytes (getD list i zeroInsn ∷ [])) → sets c (8 * (s + 1)) (codeBytes (drop (i + 1) (take n list))) ≡ sets b (8 * s) (codeBytes (drop i (take n list)))
-next-of b list n i s h l f =
-    let m = length-take-le n list h in
-    rw (add-one i)
-    (joined b s (s + 1) (getD list i zeroInsn ∷ []) (drop (suc i) (take n list)) (omega arith) f refl
-    ∙ ap (λ (x : Insn). sets b (8 * s) (codeBytes (x ∷ drop (suc i) (take n list)))) (sym (getD-take n list i zeroInsn l))
-    ∙ ap (λ (x : List Insn). sets b (8 * s) (codeBytes x)) (sym (drop-cons (take n list) i zeroInsn (omega arith))))
-
-pub all-done : (list : List Insn) (n i : ℕ) → n ≤ i → drop i (take n list) ≡ []
-all-done list n i h = drop-of-length-le (take n list) {i = i} (omega (arith, length-take n list))
+-- instructions put one by one, where there is room for all
+put-at : (b : List ℕ) (at : ℕ) (is : List Insn) → at + 8 * length is ≤ length b → putAt b at is ≡ sets b at (codeBytes is)
+unfolding putAt codeBytes
+put-at b at [] h = refl
+put-at b at (i ∷ is) h =
+    let n = bytes-length i in
+    let m = length-sets b at (bytesOf i) in
+    ap (λ (l : List ℕ). putAt l (at + 8) is) (store-in b at (bytesOf i) (omega arith))
+    ∙ put-at (sets b at (bytesOf i)) (at + 8) is (omega arith)
+    ∙ ap (λ (k : ℕ). sets (sets b at (bytesOf i)) (at + k) (codeBytes is)) (sym n)
+    ∙ sym (sets-append b at (bytesOf i) (codeBytes is))
 
 -- plain instructions are themselves, wherever jumps go
 module _ (a b : ℕ) where
@@ -69,38 +76,72 @@ module _ (a b : ℕ) where
   plain-to s [] = refl
   plain-to s (i ∷ is) = ap (λ (l : List Insn). i ∷ l) (plain-to (suc s) is)
 
-pub plain-slots : (is : List Insn) → slotsOf (plainOps is) ≡ length is
-unfolding slotsOf plainOps
-plain-slots [] = refl
-plain-slots (i ∷ is) = ap suc (plain-slots is)
-
-pub plain-maps : (is : List Insn) → mapsOf (plainOps is) ≡ 0
-unfolding mapsOf plainOps
-plain-maps [] = refl
-plain-maps (i ∷ is) = plain-maps is
-
 pub plain-relocations : (s : ℕ) (is : List Insn) → relocations s (plainOps is) ≡ []
 unfolding relocations plainOps
 plain-relocations s [] = refl
 plain-relocations s (i ∷ is) = plain-relocations (suc s) is
 
-module _ (a b : ℕ) (is : List Insn) (s t : ℕ) {cs rs : List ℕ} where
-  pub puts-plain : {s′ : ℕ} {cs′ : List ℕ} → s′ ≡ s + length is → cs′ ≡ sets cs (8 * s) (codeBytes is) → Puts a b (plainOps is) s t cs rs s′ t cs′ rs
-  puts-plain e f = record {
-    slot = omega (arith, plain-slots is);
-    reloc = omega (arith, plain-maps is);
-    code = rw (plain-to a b s is) f;
-    relocs = rw (plain-relocations s is) refl;
-  }
+plain-in : (is : List Insn) → insnsIn (plainOps is) ≡ is
+unfolding insnsIn plainOps
+plain-in [] = refl
+plain-in (i ∷ is) = ap (λ (l : List Insn). i ∷ l) (plain-in is)
 
-  pub puts-map : (m : ℕ) {u t′ v : ℕ} {cs′ rs′ cs″ : List ℕ} → Puts 0 0 (map m ∷ []) s t cs rs u t′ cs′ rs′ → v ≡ u + length is → cs″ ≡ sets cs′ (8 * u) (codeBytes is) → Puts a b (map m ∷ plainOps is) s t cs rs v t′ cs″ rs′
-  unfolding insnsTo slotsOf mapsOf relocations
-  puts-map m {u} p e f = record {
-    slot = omega (arith, plain-slots is, p .slot);
-    reloc = omega (arith, plain-maps is, p .reloc);
-    code = rw (plain-to a b (s + 2) is) (joined cs s u _ is (p .slot) (p .code) f);
-    relocs = rw (plain-relocations (s + 2) is) (p .relocs);
+plain-map : (is : List Insn) → mapIn (plainOps is) ≡ U.Nothing
+unfolding mapIn plainOps
+plain-map [] = refl
+plain-map (i ∷ is) = plain-map is
+
+-- ---- what an instruction becomes: a map's load or none, and plain instructions
+
+-- what its lowering answers and puts tells its operations
+pub record Told (a b s : ℕ) (l : List Op) (e : Emitted) : Type 0 where
+  pub slots : e .slots ≡ slotsOf l
+  pub maps : relocsBy (e .map) ≡ mapsOf l
+  pub relocs : relocationsBy s (e .map) ≡ relocations s l
+  pub code : insnsIn l ≡ insnsTo a b s l
+  pub count : length (insnsIn l) ≡ slotsOf l
+
+module _ (a b s place : ℕ) where
+  told-tidy : {x : Lowered} → Tidy 11 x → Told a b s (ops (at place x)) (held x)
+  unfolding held mapIn at ops mapOps slotsOf mapsOf relocsBy relocationsBy relocations insnsIn insnsTo
+  told-tidy (Tidy.some U.Nothing is h) = record {
+    slots = refl;
+    maps = rw (plain-map is) (sym (plain-maps is));
+    relocs = rw (plain-map is) (sym (plain-relocations s is));
+    code = plain-in is ∙ sym (plain-to a b s is);
+    count = ap length (plain-in is) ∙ sym (plain-slots is);
   }
+  told-tidy (Tidy.some (U.Map m) is h) = record {
+    slots = refl;
+    maps = ap suc (sym (plain-maps is));
+    relocs = ap (λ (l : List ℕ). bytesBefore s ∷ m ∷ l) (sym (plain-relocations (s + 2) is));
+    code = ap (λ (l : List Insn). wideInsn ∷ zeroInsn ∷ l) (plain-in is ∙ sym (plain-to a b (s + 2) is));
+    count = ap (λ (n : ℕ). suc (suc n)) (ap length (plain-in is) ∙ sym (plain-slots is));
+  }
+  told-tidy (Tidy.none r) = record { slots = refl; maps = refl; relocs = refl; code = refl; count = refl }
+
+  put-lowered : (x : Lowered) (cs : List ℕ) → putLowered cs (8 * s) x ≡ putAt cs (8 * s) (insnsIn (ops (at place x)))
+  unfolding putLowered at ops insnsIn putAt
+  put-lowered (becomes l) cs = refl
+  put-lowered (refused r) cs = refl
+
+  module _ {x : Lowered} {e : Emitted} (tidy : Tidy 11 x) (is : e ≡ held x) where
+    told : Told a b s (ops (at place x)) e
+    told = subst (Told a b s (ops (at place x))) (sym is) (told-tidy tidy)
+
+    pub told-room : {t n m : ℕ} → RoomAt (ops (at place x)) s t n m → (s + e .slots ≤ 851969) × (t + 2 * relocsBy (e .map) ≤ m)
+    told-room r = (omega (arith, r .few, told .slots), omega (arith, r .relocs, told .maps))
+
+    pub puts-told : {t s′ t′ m : ℕ} {cs rs cs′ rs′ : List ℕ} → RoomAt (ops (at place x)) s t (length cs) m → cs′ ≡ putLowered cs (8 * s) x → Relocates (e .map) (e .slots) s t rs s′ t′ rs′ → Puts a b (ops (at place x)) s t cs rs s′ t′ cs′ rs′
+    puts-told {t} {cs = cs} {rs} r f p = record {
+      slot = p .slot ∙ ap (λ (n : ℕ). s + n) (told .slots);
+      reloc = p .reloc ∙ ap (λ (n : ℕ). t + 2 * n) (told .maps);
+      code =
+          f ∙ put-lowered x cs
+          ∙ put-at cs (8 * s) (insnsIn (ops (at place x))) (omega (arith, r .code, told .count))
+          ∙ ap (λ (l : List Insn). sets cs (8 * s) (codeBytes l)) (told .code);
+      relocs = p .relocs ∙ ap (sets rs t) (told .relocs);
+    }
 
 -- ---- jumps
 
@@ -157,26 +198,21 @@ module _ (a b s t : ℕ) where
           relocs = refl;
         }
 
--- ---- what a record becomes, by the values of `lower`
+-- ---- by what the bytes show of a record
 
-held-ops : (x : Lowered) → made (held x) ≡ x → ops (at 0 x) ≡ mapOps (held x .map) ++ plainOps (take (held x .n) (held x .list))
-unfolding made held all at ops mapOps plainOps
-held-ops (becomes l) h = cc
-held-ops (refused r) h = refl
+-- what it becomes does not go by its place
+ops-place : (place : ℕ) (x : Lowered) → ops (at place x) ≡ ops (at 0 x)
+unfolding ops at
+ops-place place (becomes l) = refl
+ops-place place (refused r) = refl
 
-module _ (c : Context) (st : State) where
-  module _ (emits : st .emits ≡ true) where
-    pub instruction-ops : (i : Instruction) {t : Bool} {e : Emitted} → t ≡ c .condition (i .result) → e ≡ held (instruction (c .frame) (st .scratch) t i) → ops (recordOps c st 0 (R.Instruction i)) ≡ mapOps (e .map) ++ plainOps (take (e .n) (e .list))
-    unfolding recordOps becoming
-    instruction-ops i {t} {e} u h =
-        rw (emits, ← u)
-        (held-ops (instruction (c .frame) (st .scratch) t i) (ap made (sym h) ∙ made-is (c .frame) (st .scratch) t i h)
-        ∙ ap (λ (x : Emitted). mapOps (x .map) ++ plainOps (take (x .n) (x .list))) (sym h))
+module _ {c : Context} {st : State} {b : List ℕ} {place kind : ℕ} where
+  pub emitted-ops : (j : ℕ) {k : ℕ} {i : Parts} → Shows c st b place kind (at place (instructionBy c j (partsIn b place))) k → i ≡ partsIn b place → ops (opsIn c st b place kind) ≡ ops (at 0 (instructionBy c j i))
+  emitted-ops j w e = ap ops (w .ops) ∙ ops-place place _ ∙ ap (λ (x : Parts). ops (at 0 (instructionBy c j x))) (sym e)
 
-    pub terminator-ops : (t : Terminator) (r : Ending) → endingOps r ≡ terminator (c .frame) t → ops (recordOps c st 0 (R.Terminator t)) ≡ ops (at 0 (endingOps r))
-    unfolding recordOps becoming
-    terminator-ops t r h = rw (emits, h)
+  pub ending-ops : {k : ℕ} {t : Terminator} (r : Ending) → Shows c st b place kind (at place (terminator (c .frame) (terminatorIn b (place + 4)))) k → t ≡ terminatorIn b (place + 4) → endingOps r ≡ terminator (c .frame) t → ops (opsIn c st b place kind) ≡ ops (at 0 (endingOps r))
+  ending-ops r w e h = ap ops (w .ops) ∙ ops-place place _ ∙ ap (λ (x : Lowered). ops (at 0 x)) (ap (terminator (c .frame)) (sym e) ∙ sym h)
 
-  pub silent-ops : (r : Record) → st .emits ≡ false → ops (recordOps c st 0 r) ≡ []
-  unfolding recordOps ops
-  silent-ops r e = rw e
+  pub silent-ops : {k : ℕ} → Shows c st b place kind (laid []) k → ops (opsIn c st b place kind) ≡ []
+  unfolding ops
+  silent-ops w = ap ops (w .ops)

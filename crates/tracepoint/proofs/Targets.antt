@@ -18,10 +18,10 @@ use Rattle.insn.specs.declared.form.Form.{Form}
 use Rattle.insn.specs.declared.form.Form.the-variants.{Exit}
 use Rattle.record.specs.declared.Record.{Record}
 use Rattle.record.specs.declared.Record.the-variants as R
+use Rattle.unitfile.specs.Unit.{BasicBlock}
 use Rattle.frame.specs.Cell.{Frame}
 use Rattle.frame.specs.declared.Cell.{Cell}
 use Rattle.frame.specs.declared.Cell.the-variants.{At, Missing}
-use Rattle.unitfile.specs.Unit.{BasicBlock}
 use Rattle.flow.specs.Computed.{isReached}
 use Rattle.flow.specs.Linked.{numberFrom}
 use Rattle.flow.proofs.Numbers.{Here, number-law}
@@ -33,6 +33,7 @@ use Rattle.lower.specs.Terminator.{terminator}
 use Rattle.lower.specs.Step.{mapOps}
 use Rattle.lower.specs.declared.Reason.{Reason}
 use Rattle.lower.specs.declared.MapUse.the-variants as U
+use Rattle.lower.specs.Put.{wideInsn, zeroInsn}
 use Rattle.layout.specs.Emitted.{nodes}
 use Rattle.layout.specs.Layout.{Context, laid, at, ops}
 use Rattle.layout.specs.Jumps.{Start, starts, Target, to, nowhere, lastStart, distance, Jump, jas, jnes, patches, Landing, lands, noTarget, tooFar, onTarget, orRest, landing}
@@ -104,11 +105,11 @@ module _ (xs : List Start) (a b : ℕ) where
   unfolding insnsTo insns reaches
   written-none s = record { code = refl; reach = refl }
 
-  written-tidy : (s : ℕ) {x : Lowered} → Tidy x → Written xs a b s (ops (at 0 x))
-  unfolding ops at mapOps insnsTo insns reaches
-  written-tidy s (Tidy.some U.Nothing is) = record { code = plain-to a b s is ∙ sym (plain-insns s is); reach = plain-reaches s is }
-  written-tidy s (Tidy.some (U.Map m) is) = record { code = rw (plain-to a b (s + 2) is, plain-insns (s + 2) is); reach = plain-reaches (s + 2) is }
-  written-tidy s (Tidy.none r) = record { code = refl; reach = refl }
+  written-tidy : (s place : ℕ) {x : Lowered} → Tidy 11 x → Written xs a b s (ops (at place x))
+  unfolding ops at mapOps insnsTo insns reaches wideInsn zeroInsn
+  written-tidy s place (Tidy.some U.Nothing is h) = record { code = plain-to a b s is ∙ sym (plain-insns s is); reach = plain-reaches s is }
+  written-tidy s place (Tidy.some (U.Map m) is h) = record { code = rw (plain-to a b (s + 2) is, plain-insns (s + 2) is); reach = plain-reaches (s + 2) is }
+  written-tidy s place (Tidy.none r) = record { code = refl; reach = refl }
 
 -- ---- a terminator's operations
 
@@ -158,7 +159,7 @@ ends f (T.Jump id) = Ends.jump id
 ends f (T.Branch o first second) = ends-branch o first second (one-load f 0 o)
 
 module _ (xs : List Start) (a b place s : ℕ) where
-  written-ends : {t : Terminator} {x : Lowered} → Ends t x → Leads xs (firstTarget t) a → Leads xs (secondTarget t) b → landing xs (patches place s (ops (at place x))) ≡ lands → Written xs a b s (ops (at 0 x))
+  written-ends : {t : Terminator} {x : Lowered} → Ends t x → Leads xs (firstTarget t) a → Leads xs (secondTarget t) b → landing xs (patches place s (ops (at place x))) ≡ lands → Written xs a b s (ops (at place x))
   unfolding firstTarget secondTarget ops at patches jas jnes landing orRest insnsTo insns reaches distanceTo
   written-ends (Ends.return o i j) p q h = record { code = refl; reach = refl }
   written-ends (Ends.jump id) p q h =
@@ -173,16 +174,16 @@ module _ (xs : List Start) (a b place s : ℕ) where
 
   -- ---- a record's
 
-  written-by : (c : Context) (j : ℕ) (t : Bool) (r : Record) → ((u : Terminator) → r ≡ R.Terminator u → Leads xs (firstTarget u) a × Leads xs (secondTarget u) b) → landing xs (pick t (jumping c place s r) []) ≡ lands → Written xs a b s (ops (pick t (becoming c j 0 r) (laid [])))
+  written-by : (c : Context) (j : ℕ) (t : Bool) (r : Record) → ((u : Terminator) → r ≡ R.Terminator u → Leads xs (firstTarget u) a × Leads xs (secondTarget u) b) → landing xs (pick t (jumping c place s r) []) ≡ lands → Written xs a b s (ops (pick t (becoming c j place r) (laid [])))
   unfolding jumping becoming ops
   written-by c j false r p h = written-none xs a b s
   written-by c j true (R.Head x) p h = written-none xs a b s
   written-by c j true (R.Map start len) p h = written-none xs a b s
   written-by c j true (R.Block id) p h = written-none xs a b s
-  written-by c j true (R.Instruction i) p h = written-tidy xs a b s (tidy-instruction (c .frame) j (c .condition (i .result)) i)
+  written-by c j true (R.Instruction i) p h = written-tidy xs a b s place (tidy-instruction (c .frame) j (c .condition (i .result)) i)
   written-by c j true (R.Terminator u) p h = let l = p u refl in written-ends (ends (c .frame) u) (l .0) (l .1) h
 
-  pub written-record : (c : Context) (st : State) (r : Record) → ((u : Terminator) → r ≡ R.Terminator u → Leads xs (firstTarget u) a × Leads xs (secondTarget u) b) → landing xs (recordJumps c st place s r) ≡ lands → Written xs a b s (ops (recordOps c st 0 r))
+  pub written-record : (c : Context) (st : State) (r : Record) → ((u : Terminator) → r ≡ R.Terminator u → Leads xs (firstTarget u) a × Leads xs (secondTarget u) b) → landing xs (recordJumps c st place s r) ≡ lands → Written xs a b s (ops (recordOps c st place r))
   unfolding recordJumps recordOps
   written-record c st r p h = written-by c (st .scratch) (st .emits) r p h
 

@@ -1,13 +1,13 @@
 -- What the crate's private functions answer: the passes by records and by block numbers. No public promise names these.
-use Prim.Native.Nat.{ℕ, suc}
 use mathlib.Core.Bool.{Bool, true, false}
 use mathlib.Core.List.{List, [], _∷_}
-use lib.Dec.{eqb}
-use lib.ListN.{set}
+use Prim.Native.Nat.{ℕ, suc}
+use lib.Dec.{eqb, ltb}
+use lib.ListN.{length, set}
 use Rattle.wire.specs.Pick.{pick}
 use Rattle.record.specs.declared.Record.{Record}
 use Rattle.record.specs.declared.Record.the-variants as R
-use Rattle.frame.specs.Cell.{frameOf}
+use Rattle.frame.specs.Hint.{indexBy, frameBy}
 use Rattle.lower.specs.Instruction.{instruction, scratchAfter}
 use Rattle.lower.specs.Terminator.{terminator}
 use Rattle.layout.specs.Layout.{Laid, laid, Context, at, ops}
@@ -55,6 +55,13 @@ unfoldable pub markFrom : ℕ → List ℕ → List ℕ → ℕ → List ℕ
 markFrom i [] marks v = marks
 markFrom i (x ∷ xs) marks v = pick (eqb v x) (set marks i 1) (markFrom (suc i) xs marks v)
 
--- what lowering is told, by the variables and their marks
-abbrev pub contextOf : List ℕ → List ℕ → Context
-contextOf vs ms = record { frame = frameOf vs; condition = conditionFrom 0 vs ms }
+-- the same by the variable's index among the variables
+unfoldable pub conditionAt : List ℕ → List ℕ → ℕ → Bool
+conditionAt vs marks i = pick (ltb i (length vs)) (marked marks i) false
+
+unfoldable pub markAt : List ℕ → List ℕ → ℕ → List ℕ
+markAt vs marks i = pick (ltb i (length vs)) (set marks i 1) marks
+
+-- what lowering is told, by the variables, the hints of their indices and their marks
+abbrev pub contextOf : List ℕ → List ℕ → List ℕ → Context
+contextOf vs hs ms = record { frame = frameBy vs hs; condition = λ v. conditionAt vs ms (indexBy vs hs v) }

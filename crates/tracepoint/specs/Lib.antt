@@ -1,5 +1,6 @@
 pub mod Compile
 pub mod Inner
+pub mod Seen
 pub mod Notes
 pub mod Stages
 pub mod Tables

@@ -1,9 +1,10 @@
 -- What the terminators tell: which variables are branch conditions, and where each block goes.
-use Prim.Native.Nat.{ℕ, _+_, _*_}
 use mathlib.Core.Path.{_≡_}
 use mathlib.Core.List.{List, [], _∷_}
+use Prim.Native.Nat.{ℕ, _+_, _*_}
 use lib.ListN.{length}
 use lib.Seq.{sets}
+use Rattle.wire.specs.Pick.{both, either}
 use Rattle.ir.specs.declared.Operand.{Operand}
 use Rattle.ir.specs.declared.Operand.the-variants.{Var, Immediate}
 use Rattle.ir.specs.declared.Terminator.{Terminator}
@@ -11,21 +12,20 @@ use Rattle.ir.specs.declared.Terminator.the-variants.{Return, Jump, Branch}
 use Rattle.record.specs.declared.Record.{Record}
 use Rattle.record.specs.declared.Record.the-variants as R
 use Rattle.unitfile.specs.Unit.{BasicBlock}
-use Rattle.survey.specs.Inner.{atEnd}
-use Rattle.wire.specs.Pick.{both, either}
+use Rattle.frame.specs.Hint.{indexBy}
 use Rattle.flow.specs.Node.{among}
 use Rattle.survey.specs.Conditions.{isCondition}
-use Rattle.tracepoint.specs.Inner.{conditionFrom, markFrom}
+use Rattle.tracepoint.specs.Inner.{conditionFrom, markAt}
 
 -- the marks after a terminator
-unfoldable pub marksOn : List ℕ → List ℕ → Operand → List ℕ
-marksOn vs marks (Var v) = markFrom 0 vs marks v
-marksOn vs marks (Immediate z) = marks
+unfoldable pub marksOn : List ℕ → List ℕ → List ℕ → Operand → List ℕ
+marksOn vs hs marks (Var v) = markAt vs marks (indexBy vs hs v)
+marksOn vs hs marks (Immediate z) = marks
 
-unfoldable pub marksAfter : List ℕ → List ℕ → Terminator → List ℕ
-marksAfter vs marks (Return o) = marks
-marksAfter vs marks (Jump target) = marks
-marksAfter vs marks (Branch o to other) = marksOn vs marks o
+unfoldable pub marksAfter : List ℕ → List ℕ → List ℕ → Terminator → List ℕ
+marksAfter vs hs marks (Return o) = marks
+marksAfter vs hs marks (Jump target) = marks
+marksAfter vs hs marks (Branch o to other) = marksOn vs hs marks o
 
 unfoldable pub countOf : Terminator → ℕ
 countOf (Return o) = 0
@@ -51,33 +51,31 @@ unfoldable pub pairsOf : List BasicBlock → List ℕ
 pairsOf [] = []
 pairsOf (b ∷ bs) = firstTarget (b .terminator) ∷ secondTarget (b .terminator) ∷ pairsOf bs
 
--- of one record
-unfoldable pub recordMarks : List ℕ → List ℕ → Record → List ℕ
-recordMarks vs marks (R.Head h) = marks
-recordMarks vs marks (R.Map start len) = marks
-recordMarks vs marks (R.Block id) = marks
-recordMarks vs marks (R.Instruction i) = marks
-recordMarks vs marks (R.Terminator t) = marksAfter vs marks t
+-- of the terminator of one record, or none
+unfoldable pub closing : Record → List Terminator
+closing (R.Head h) = []
+closing (R.Map start len) = []
+closing (R.Block id) = []
+closing (R.Instruction i) = []
+closing (R.Terminator t) = t ∷ []
 
-unfoldable pub recordCount : Record → List ℕ
-recordCount (R.Head h) = []
-recordCount (R.Map start len) = []
-recordCount (R.Block id) = []
-recordCount (R.Instruction i) = []
-recordCount (R.Terminator t) = countOf t ∷ []
+unfoldable pub marksThrough : List ℕ → List ℕ → List ℕ → List Terminator → List ℕ
+marksThrough vs hs marks [] = marks
+marksThrough vs hs marks (t ∷ ts) = marksThrough vs hs (marksAfter vs hs marks t) ts
 
-unfoldable pub recordPair : Record → List ℕ
-recordPair (R.Head h) = []
-recordPair (R.Map start len) = []
-recordPair (R.Block id) = []
-recordPair (R.Instruction i) = []
-recordPair (R.Terminator t) = firstTarget t ∷ secondTarget t ∷ []
+unfoldable pub countsThrough : List Terminator → List ℕ
+countsThrough [] = []
+countsThrough (t ∷ ts) = countOf t ∷ countsThrough ts
 
-pub record Notes (vs : List ℕ) (k : ℕ) (r : Record) (ms cs ts : List ℕ) (k′ : ℕ) (ms′ cs′ ts′ : List ℕ) : Type 0 where
-  pub block : k′ ≡ k + length (atEnd 0 r)
-  pub marks : ms′ ≡ recordMarks vs ms r
-  pub counts : cs′ ≡ sets cs k (recordCount r)
-  pub targets : ts′ ≡ sets ts (2 * k) (recordPair r)
+unfoldable pub pairsThrough : List Terminator → List ℕ
+pairsThrough [] = []
+pairsThrough (t ∷ ts) = firstTarget t ∷ secondTarget t ∷ pairsThrough ts
+
+pub record Notes (vs hs : List ℕ) (k : ℕ) (closed : List Terminator) (ms cs ts : List ℕ) (k′ : ℕ) (ms′ cs′ ts′ : List ℕ) : Type 0 where
+  pub block : k′ ≡ k + length closed
+  pub marks : ms′ ≡ marksThrough vs hs ms closed
+  pub counts : cs′ ≡ sets cs k (countsThrough closed)
+  pub targets : ts′ ≡ sets ts (2 * k) (pairsThrough closed)
 
 -- of a whole unit
 pub record Noted (bs : List BasicBlock) (vs ms cs ts ms′ cs′ ts′ : List ℕ) : Type 0 where

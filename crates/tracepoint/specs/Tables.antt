@@ -1,8 +1,8 @@
 -- What the passes over a unit leave in the arrays they share: tables by block number.
-use Prim.Native.Nat.{ℕ, _*_, _≤_, _<_}
 use mathlib.Core.Path.{_≡_}
 use mathlib.Core.Bool.{Bool, false}
 use mathlib.Core.List.{List}
+use Prim.Native.Nat.{ℕ, _*_, _≤_, _<_}
 use lib.ListN.{length, getD}
 use lib.Seq.{sets}
 use Rattle.unitfile.specs.Unit.{BasicBlock}
@@ -10,6 +10,11 @@ use Rattle.flow.specs.Computed.{isReached}
 use Rattle.flow.specs.Linked.{numberFrom}
 use Rattle.survey.specs.Surveyed as survey
 use Rattle.lower.specs.Op.{Op, slotsOf}
+use Rattle.lower.specs.declared.Outcome.{Outcome}
+use Rattle.lower.specs.declared.Outcome.the-variants as O
+use Rattle.lower.specs.declared.MapUse.{MapUse}
+use Rattle.lower.specs.declared.MapUse.the-variants as M
+use Rattle.lower.specs.declared.Emitted.{Emitted}
 use Rattle.layout.specs.Emitted.{nodes}
 use Rattle.layout.specs.Layout.{Laid, laid, refusedAt, Context, unitOps, ops}
 use Rattle.layout.specs.Jumps.{Landing, starts, jumps, landing}
@@ -17,6 +22,7 @@ use Rattle.layout.specs.Inner as layout
 use Rattle.layout.specs.Inner.{keepBy, mapsOf}
 use Rattle.tracepoint.specs.Notes.{countsOf, pairsOf}
 use Rattle.tracepoint.specs.declared.measure.Size.{Size}
+use Rattle.tracepoint.specs.declared.measure.Taken.{Taken}
 use Rattle.tracepoint.specs.declared.measure.Size.the-variants as S
 
 -- how many slots and relocations there are, or the first refusal and its place
@@ -24,10 +30,27 @@ unfoldable pub sizeOf : Laid → Size
 sizeOf (laid l) = S.Slots (slotsOf l) (mapsOf l)
 sizeOf (refusedAt place r) = S.Refused place r
 
+-- the same by what an instruction's lowering answers: its outcome, its map, its slots
+unfoldable pub relocsBy : MapUse → ℕ
+relocsBy M.Nothing = 0
+relocsBy (M.Map m) = 1
+
+unfoldable pub sizeOn : ℕ → Outcome → MapUse → ℕ → Size
+sizeOn place O.Fine m n = S.Slots n (relocsBy m)
+sizeOn place (O.Refused r) m n = S.Refused place r
+
+unfoldable pub sizeBy : ℕ → Emitted → Size
+sizeBy place e = sizeOn place (e .outcome) (e .map) (e .slots)
+
 -- of one record: a map's load and eleven instructions at most
 pub record Sized (l : Laid) (r : Size) : Type 0 where
   pub size : r ≡ sizeOf l
   pub few : (n m : ℕ) → r ≡ S.Slots n m → (n ≤ 13) × (m ≤ 1)
+
+-- and the scratch ring's position after it
+pub record Takes (l : Laid) (j : ℕ) (r : Taken) : Type 0 where
+  pub size : Sized l (r .size)
+  pub scratch : r .scratch ≡ j
 
 -- ls: the slots at which the blocks begin, then the slot after the last
 pub record Measured (c : Context) (e : ℕ → Bool) (bs : List BasicBlock) (ls : List ℕ) (r : Size) (ls′ : List ℕ) : Type 0 where

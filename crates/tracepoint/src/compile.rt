@@ -5,6 +5,7 @@ use crate::context;
 use crate::measure;
 use crate::measure::Size;
 use crate::write;
+use frame::hint;
 use jumps::Landed;
 use unitfile::Found;
 use unitfile::ReadUnit;
@@ -13,8 +14,8 @@ ghost use Prim.Native.Nat.{_≤_};
 ghost use lib.ListN.{length};
 ghost use Rattle.unitfile.specs.Unit.{parse, readUnit};
 ghost use Rattle.survey.specs.Surveyed.{blocksOf};
-ghost use Rattle.tracepoint.specs.Compile.{loweringOf};
 ghost use Rattle.jumps.specs.Landed.{marked};
+ghost use Rattle.tracepoint.specs.Compile.{loweringOf};
 ghost use Rattle.tracepoint.specs.Inner.{contextOf};
 ghost use Rattle.tracepoint.specs.Stages.{Surveyed, Linked, Ready, loweringBy, loweredBy, Answers};
 
@@ -23,6 +24,7 @@ fn write_roomed(
     unit: &[u8],
     found: Found,
     variables: &[u32],
+    hints: &[u8; 256],
     marks: &[u8; 56],
     emitted: &[u8; 1024],
     edges: &[u32; 1025],
@@ -34,8 +36,8 @@ fn write_roomed(
 ) -> Compiled
     requires { ⌜ readUnit (now unit) ≡ ReadUnit.Unit found ⌝ }
     requires { ⌜ (length (now variables) ≤ 56) × (length (now emitted) ≡ 1024) ⌝ }
-    requires { ⌜ Ready (contextOf (now variables) (now marks)) (marked (now emitted)) (blocksOf (parse (now unit))) (now edges) (now numbers) slots maps ⌝ }
-    ensures { λ r. ⌜ Answers (loweredBy (contextOf (now (variables .entry)) (now (marks .entry))) (marked (now (emitted .entry))) (blocksOf (parse (now (unit .entry))))) (now (code .entry)) (now (relocs .entry)) r (now (code .exit)) (now (relocs .exit)) ⌝ }
+    requires { ⌜ Ready (contextOf (now variables) (now hints) (now marks)) (marked (now emitted)) (blocksOf (parse (now unit))) (now edges) (now numbers) slots maps ⌝ }
+    ensures { λ r. ⌜ Answers (loweredBy (contextOf (now (variables .entry)) (now (hints .entry)) (now (marks .entry))) (marked (now (emitted .entry))) (blocksOf (parse (now (unit .entry))))) (now (code .entry)) (now (relocs .entry)) r (now (code .exit)) (now (relocs .exit)) ⌝ }
 {
     let bytes = 8 * slots;
     if code.len() < bytes as usize {
@@ -49,6 +51,7 @@ fn write_roomed(
         unit,
         found,
         variables,
+        hints,
         marks,
         emitted,
         edges,
@@ -64,6 +67,7 @@ fn compile_linked(
     unit: &[u8],
     found: Found,
     variables: &[u32],
+    hints: &[u8; 256],
     marks: &[u8; 56],
     emitted: &[u8; 1024],
     numbers: &[u32; 2048],
@@ -76,10 +80,10 @@ fn compile_linked(
     requires { ⌜ readUnit (now unit) ≡ ReadUnit.Unit found ⌝ }
     requires { ⌜ length (now variables) ≤ 56 ⌝ }
     requires { ⌜ Linked (blocksOf (parse (now unit))) (now emitted) (now numbers) (now endings) (now counts) (now named) ⌝ }
-    ensures { λ r. ⌜ Answers (loweringBy (contextOf (now (variables .entry)) (now (marks .entry))) (marked (now (emitted .entry))) (blocksOf (parse (now (unit .entry))))) (now (code .entry)) (now (relocs .entry)) r (now (code .exit)) (now (relocs .exit)) ⌝ }
+    ensures { λ r. ⌜ Answers (loweringBy (contextOf (now (variables .entry)) (now (hints .entry)) (now (marks .entry))) (marked (now (emitted .entry))) (blocksOf (parse (now (unit .entry))))) (now (code .entry)) (now (relocs .entry)) r (now (code .exit)) (now (relocs .exit)) ⌝ }
 {
     let mut edges = [0u32; 1025];
-    match measure::measure(unit, found, variables, marks, emitted, &mut edges) {
+    match measure::measure(unit, found, variables, hints, marks, emitted, &mut edges) {
         Size::Refused(place, reason) => Compiled::Refused(Fault::Instruction(place, reason)),
         Size::Slots(slots, maps) => {
             let head = found.head;
@@ -98,6 +102,7 @@ fn compile_linked(
                     unit,
                     found,
                     variables,
+                    hints,
                     marks,
                     emitted,
                     &edges,
@@ -125,10 +130,20 @@ pub(crate) fn compile_surveyed(
     requires { ⌜ Surveyed (now unit) found (now variables) (now ids) (now endings) ⌝ }
     ensures { λ r. ⌜ Answers (loweringOf (parse (now (unit .entry)))) (now (code .entry)) (now (relocs .entry)) r (now (code .exit)) (now (relocs .exit)) ⌝ }
 {
+    let mut hints = [0u8; 256];
+    hint::put_hints(variables, &mut hints);
     let mut marks = [0u8; 56];
     let mut counts = [0u8; 1024];
     let mut named = [0u32; 2048];
-    context::note_blocks(unit, found, variables, &mut marks, &mut counts, &mut named);
+    context::note_blocks(
+        unit,
+        found,
+        variables,
+        &hints,
+        &mut marks,
+        &mut counts,
+        &mut named,
+    );
     let head = found.head;
     let n = head.blocks as usize;
     let mut numbers = named;
@@ -138,6 +153,7 @@ pub(crate) fn compile_surveyed(
         unit,
         found,
         variables,
+        &hints,
         &marks,
         &emitted,
         &numbers,

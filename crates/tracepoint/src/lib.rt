@@ -2,6 +2,7 @@
 mod compile;
 mod context;
 mod measure;
+mod parts;
 mod walk;
 mod write;
 

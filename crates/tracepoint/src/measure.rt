@@ -1,31 +1,30 @@
 // How many slots and relocations a unit's blocks take and where each block begins; or the first refusal.
 use crate::context;
+use crate::parts;
+use crate::parts::Parts;
 use crate::walk;
 use crate::walk::State;
-use insn::Insn;
 use lower::Emitted;
 use lower::Ending;
 use lower::MapUse;
 use lower::Outcome;
 use lower::Reason;
-use record::Record;
 use unitfile::Cursor;
 use unitfile::Found;
 use unitfile::ReadUnit;
-use unitfile::Step;
+use unitfile::peek;
 ghost use mathlib.Core.Path.{_≡_};
 ghost use Prim.Native.Nat.{suc, _+_, _≤_};
 ghost use lib.ListN.{length};
 ghost use lib.Seq.{sets};
 ghost use Rattle.unitfile.specs.Unit.{parse, readUnit};
 ghost use Rattle.survey.specs.Surveyed.{blocksOf};
-ghost use Rattle.survey.specs.Inner.{atEnd};
 ghost use Rattle.lower.specs.Held.{endingOps};
 ghost use Rattle.layout.specs.Layout.{at};
-ghost use Rattle.layout.specs.Inner.{made};
 ghost use Rattle.jumps.specs.Landed.{marked};
-ghost use Rattle.tracepoint.specs.Inner.{contextOf, recordOps};
-ghost use Rattle.tracepoint.specs.Tables.{Sized, Measured};
+ghost use Rattle.tracepoint.specs.Inner.{contextOf};
+ghost use Rattle.tracepoint.specs.Seen.{instructionBy, ringAfter, opsIn, scratchIn, endIn};
+ghost use Rattle.tracepoint.specs.Tables.{sizeBy, Sized, Takes, Measured};
 
 // Slots and relocations, or the place of the record that is refused.
 pub enum Size {
@@ -33,24 +32,56 @@ pub enum Size {
     Refused(usize, Reason),
 }
 
-// What an array's copy shows of it: how long it is.
-fn fixed(list: [Insn; 11])
-    ensures { λ _. ⌜ length list ≡ 11 ⌝ }
-{}
+// What a record takes, and the scratch ring's position after it.
+pub struct Taken {
+    pub size: Size,
+    pub scratch: u8,
+}
 
 fn size_of(place: usize, e: Emitted) -> Size
-    requires { ⌜ (e .n ≤ 11) × (length (e .list) ≡ 11) ⌝ }
-    ensures { λ r. ⌜ Sized (at place (made e)) r ⌝ }
+    ensures { λ r. ⌜ r ≡ sizeBy place e ⌝ }
 {
     let outcome = e.outcome;
     let map = e.map;
-    let n = e.n as u32;
     match outcome {
         Outcome::Refused(reason) => Size::Refused(place, reason),
         Outcome::Fine => match map {
-            MapUse::Nothing => Size::Slots(n, 0),
-            MapUse::Map(_) => Size::Slots(n + 2, 1),
+            MapUse::Nothing => Size::Slots(e.slots, 0),
+            MapUse::Map(_) => Size::Slots(e.slots, 1),
         },
+    }
+}
+
+// The instruction at a place by its parts, lowered into a buffer that is not kept.
+fn size_of_instruction(
+    variables: &[u32],
+    hints: &[u8; 256],
+    marks: &[u8; 56],
+    j: u8,
+    place: usize,
+    i: Parts,
+) -> Taken
+    requires { ⌜ length (now variables) ≤ 56 ⌝ }
+    ensures { λ r. ⌜ Takes (at place (instructionBy (contextOf (now (variables .entry)) (now (hints .entry)) (now (marks .entry))) j i)) (ringAfter j i) r ⌝ }
+{
+    let opcode = i.opcode;
+    let few = i.few;
+    let condition = context::is_condition(variables, hints, marks, i.result);
+    let mut code = [0u8; 104];
+    let e = lower::lower_instruction(
+        &mut code,
+        0,
+        variables,
+        hints,
+        j,
+        condition,
+        i.result,
+        opcode,
+        few,
+    );
+    Taken {
+        size: size_of(place, e),
+        scratch: lower::scratch_after(j, opcode, few),
     }
 }
 
@@ -65,48 +96,50 @@ fn size_of_ending(place: usize, t: Ending) -> Size
     }
 }
 
-// What the record at a place takes.
+// What the record at a place takes, by its kind.
 fn size_of_record(
+    unit: &[u8],
     variables: &[u32],
+    hints: &[u8; 256],
     marks: &[u8; 56],
     st: State,
+    kind: u16,
     place: usize,
-    value: Record,
-) -> Size
-    requires { ⌜ length (now variables) ≤ 56 ⌝ }
-    ensures { λ r. ⌜ Sized (recordOps (contextOf (now (variables .entry)) (now (marks .entry))) st place value) r ⌝ }
+) -> Taken
+    requires { ⌜ (length (now variables) ≤ 56) × (place ≤ 262144) ⌝ }
+    ensures { λ r. ⌜ Takes (opsIn (contextOf (now (variables .entry)) (now (hints .entry)) (now (marks .entry))) st (now (unit .entry)) place kind) (scratchIn st (now (unit .entry)) place kind) r ⌝ }
 {
     if st.emits {
-        return match value {
-            Record::Instruction(i) => {
-                let condition = context::is_condition(variables, marks, i.result);
-                let e = lower::lower_instruction(variables, st.scratch, condition, i);
-                let list = e.list;
-                fixed(list);
-                size_of(place, e)
-            }
-            Record::Terminator(t) => size_of_ending(place, lower::lower_terminator(variables, t)),
-            Record::Block(_) => Size::Slots(0, 0),
-            Record::Head(_) => Size::Slots(0, 0),
-            Record::Map { start: _, len: _ } => Size::Slots(0, 0),
+        if kind == 4 {
+            let i = parts::parts_at(unit, place);
+            return size_of_instruction(variables, hints, marks, st.scratch, place, i);
+        }
+        if kind == 5 {
+            let t = record::terminator::terminator_in(unit, place + 4);
+            return Taken {
+                size: size_of_ending(place, lower::lower_terminator(variables, hints, t)),
+                scratch: st.scratch,
+            };
+        }
+        return Taken {
+            size: Size::Slots(0, 0),
+            scratch: st.scratch,
         };
     }
-    Size::Slots(0, 0)
+    Taken {
+        size: Size::Slots(0, 0),
+        scratch: st.scratch,
+    }
 }
 
-// The slot after block k, where the record ends it.
-fn put_edge(edges: &mut [u32; 1025], k: usize, slots: u32, value: Record)
-    requires { ⌜ (k + length (atEnd 0 value) ≤ 1024) × (length (now edges) ≡ 1025) ⌝ }
-    ensures { λ _. ⌜ now (edges .exit) ≡ sets (now (edges .entry)) (suc k) (atEnd slots value) ⌝ }
+// The slot after block k, where a record of the kind ends it.
+fn put_edge(edges: &mut [u32; 1025], k: usize, slots: u32, kind: u16)
+    requires { ⌜ (k + length (endIn 0 kind) ≤ 1024) × (length (now edges) ≡ 1025) ⌝ }
+    ensures { λ _. ⌜ now (edges .exit) ≡ sets (now (edges .entry)) (suc k) (endIn slots kind) ⌝ }
 {
-    match value {
-        Record::Terminator(_) => {
-            edges[k + 1] = slots;
-        }
-        Record::Block(_) => {}
-        Record::Instruction(_) => {}
-        Record::Head(_) => {}
-        Record::Map { start: _, len: _ } => {}
+    if kind == 5 {
+        edges[k + 1] = slots;
+        return;
     }
 }
 
@@ -115,16 +148,16 @@ pub(crate) fn measure(
     unit: &[u8],
     found: Found,
     variables: &[u32],
+    hints: &[u8; 256],
     marks: &[u8; 56],
     emitted: &[u8; 1024],
     edges: &mut [u32; 1025],
 ) -> Size
     requires { ⌜ readUnit (now unit) ≡ ReadUnit.Unit found ⌝ }
     requires { ⌜ (length (now variables) ≤ 56) × (length (now emitted) ≡ 1024) × (length (now edges) ≡ 1025) ⌝ }
-    ensures { λ r. ⌜ Measured (contextOf (now (variables .entry)) (now (marks .entry))) (marked (now (emitted .entry))) (blocksOf (parse (now (unit .entry)))) (now (edges .entry)) r (now (edges .exit)) ⌝ }
+    ensures { λ r. ⌜ Measured (contextOf (now (variables .entry)) (now (hints .entry)) (now (marks .entry))) (marked (now (emitted .entry))) (blocksOf (parse (now (unit .entry)))) (now (edges .entry)) r (now (edges .exit)) ⌝ }
 {
     let head = found.head;
-    let maps = head.maps;
     let mut c = Cursor {
         at: found.body,
         blocks: head.blocks,
@@ -139,10 +172,13 @@ pub(crate) fn measure(
     let mut relocs = 0;
     edges[0] = 1;
     loop {
-        let Step::Go(value, next) = unitfile::next_record(unit, maps, c) else {
+        let p = peek::peek(unit, c);
+        if p.kind == 0 {
             return Size::Slots(slots, relocs);
-        };
-        match size_of_record(variables, marks, st, c.at, value) {
+        }
+        let taken = size_of_record(unit, variables, hints, marks, st, p.kind, c.at);
+        let size = taken.size;
+        match size {
             Size::Slots(s, r) => {
                 slots += s;
                 relocs += r;
@@ -151,8 +187,8 @@ pub(crate) fn measure(
                 return Size::Refused(place, reason);
             }
         }
-        put_edge(edges, st.block, slots, value);
-        st = walk::after(emitted, st, value);
-        c = next;
+        put_edge(edges, st.block, slots, p.kind);
+        st = walk::after(emitted, st, p.kind, taken.scratch);
+        c = p.next;
     }
 }

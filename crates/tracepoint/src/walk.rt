@@ -1,10 +1,9 @@
 // What every pass over the records keeps: the block it is in, whether that block is emitted, and the scratch ring's position.
-use record::Record;
 ghost use mathlib.Core.Path.{_≡_};
 ghost use Prim.Native.Nat.{_≤_};
 ghost use lib.ListN.{length};
 ghost use Rattle.jumps.specs.Landed.{marked};
-ghost use Rattle.tracepoint.specs.Inner.{after};
+ghost use Rattle.tracepoint.specs.Seen.{stateAfter};
 
 pub struct State {
     pub block: usize,
@@ -22,33 +21,28 @@ fn flag(emitted: &[u8; 1024], block: usize) -> bool
     false
 }
 
-// The state after a record, by which blocks are emitted.
-pub(crate) fn after(emitted: &[u8; 1024], st: State, value: Record) -> State
+// The state after a record of a kind, by which blocks are emitted; the ring's position is then `scratch`.
+pub(crate) fn after(emitted: &[u8; 1024], st: State, kind: u16, scratch: u8) -> State
     requires { ⌜ (st .block ≤ 1024) × (length (now emitted) ≡ 1024) ⌝ }
-    ensures { λ r. ⌜ r ≡ after (marked (now (emitted .entry))) st value ⌝ }
+    ensures { λ r. ⌜ r ≡ stateAfter (marked (now (emitted .entry))) st kind scratch ⌝ }
 {
-    match value {
-        Record::Block(_) => State {
+    if kind == 3 {
+        return State {
             block: st.block,
             emits: flag(emitted, st.block),
-            scratch: st.scratch, // the ring goes on through the unit
-        },
-        Record::Instruction(i) => {
-            if st.emits {
-                return State {
-                    block: st.block,
-                    emits: true,
-                    scratch: lower::scratch_after(st.scratch, i),
-                };
-            }
-            st
-        }
-        Record::Terminator(_) => State {
+            scratch: scratch, // the ring goes on through the unit
+        };
+    }
+    if kind == 5 {
+        return State {
             block: st.block + 1,
             emits: st.emits,
-            scratch: st.scratch,
-        },
-        Record::Head(_) => st,
-        Record::Map { start: _, len: _ } => st,
+            scratch: scratch,
+        };
+    }
+    State {
+        block: st.block,
+        emits: st.emits,
+        scratch: scratch,
     }
 }

@@ -1,44 +1,49 @@
 // The code and the relocations of a unit, written where there is room for all of them.
 use crate::context;
+use crate::parts;
+use crate::parts::Parts;
 use crate::walk;
 use crate::walk::State;
 use insn::Insn;
-use lower::Emitted;
 use lower::Ending;
 use lower::MapUse;
-use record::Record;
 use unitfile::Cursor;
 use unitfile::Found;
 use unitfile::ReadUnit;
-use unitfile::Step;
+use unitfile::peek;
 use wire::number::ByteOffset;
 use wire::number::SlotNumber;
 ghost use mathlib.Core.Path.{_≡_};
 ghost use mathlib.Core.Bool.{true};
-ghost use mathlib.Core.List.{List, [], _∷_, _++_};
+ghost use mathlib.Core.List.{List, [], _∷_};
 ghost use Prim.Native.Nat.{ℕ, _+_, _*_, _<_, _≤_};
-ghost use lib.ListN.{length, getD, take};
+ghost use lib.ListN.{length, getD};
 ghost use lib.Seq.{sets};
 ghost use Rattle.unitfile.specs.Unit.{parse, readUnit};
 ghost use Rattle.survey.specs.Surveyed.{blocksOf};
-ghost use Rattle.survey.specs.Inner.{atEnd};
-ghost use Rattle.lower.specs.Op.{map, slotsOf};
+ghost use Rattle.lower.specs.Op.{slotsOf};
 ghost use Rattle.lower.specs.Operand.{fits16};
-ghost use Rattle.lower.specs.Step.{mapOps};
 ghost use Rattle.lower.specs.Held.{endingOps};
 ghost use Rattle.layout.specs.Layout.{at, ops, unitOps};
 ghost use Rattle.layout.specs.Jumps.{starts, lands, distance};
 ghost use Rattle.layout.specs.Code.{insns, codeBytes, relocations};
-ghost use Rattle.layout.specs.Inner.{keepBy, plainOps};
+ghost use Rattle.layout.specs.Inner.{keepBy};
 ghost use Rattle.jumps.specs.Landed.{marked};
-ghost use Rattle.tracepoint.specs.Inner.{contextOf, recordOps};
-ghost use Rattle.tracepoint.specs.Tables.{Tables, Room, unitLanding};
-ghost use Rattle.tracepoint.specs.Put.{slotTo, jumpOf, reaches, RoomAt, Puts};
+ghost use Rattle.tracepoint.specs.Inner.{contextOf};
+ghost use Rattle.tracepoint.specs.Seen.{instructionBy, ringAfter, opsIn, scratchIn, endIn};
+ghost use Rattle.tracepoint.specs.Tables.{relocsBy, Tables, Room, unitLanding};
+ghost use Rattle.tracepoint.specs.Put.{slotTo, jumpOf, reaches, Relocates, RoomAt, Puts};
 
 // The next slot of the code, and how many numbers the relocations have so far.
 pub struct Front {
     pub slot: SlotNumber,
     pub relocs: usize,
+}
+
+// The front after a record, and the scratch ring's position.
+pub struct Passed {
+    pub front: Front,
+    pub scratch: u8,
 }
 
 // ---- instructions
@@ -50,85 +55,65 @@ fn put(code: &mut [u8], slot: SlotNumber, i: Insn)
     insn::put_insn(code, 8 * (slot.0 as usize), i);
 }
 
-// The first n of eleven; and the slot after them.
-fn put_list(code: &mut [u8], slot: SlotNumber, list: [Insn; 11], n: usize) -> SlotNumber
-    requires { ⌜ (n ≤ 11) × (slot .0 + n ≤ 851969) × (8 * (slot .0 + n) ≤ length (now code)) ⌝ }
-    ensures { λ r. ⌜ (r .0 ≡ slot .0 + n) × (now (code .exit) ≡ sets (now (code .entry)) (8 * slot .0) (codeBytes (take n list))) ⌝ }
-{
-    let mut s = slot.0;
-    let mut i = 0;
-    while i < n {
-        put(code, SlotNumber(s), list[i]);
-        s += 1;
-        i += 1;
-    }
-    SlotNumber(s)
-}
-
-// ---- the load of a map's address: two slots, and a relocation for the first
-
-fn put_map(code: &mut [u8], relocs: &mut [u32], front: Front, m: u32) -> Front
-    requires { ⌜ RoomAt (map m ∷ []) (front .slot .0) (front .relocs) (length (now code)) (length (now relocs)) ⌝ }
-    ensures { λ r. ⌜ Puts 0 0 (map m ∷ []) (front .slot .0) (front .relocs) (now (code .entry)) (now (relocs .entry)) (r .slot .0) (r .relocs) (now (code .exit)) (now (relocs .exit)) ⌝ }
+// The front after so many slots; a map's load is the first of them and has a relocation.
+fn put_relocation(relocs: &mut [u32], front: Front, map: MapUse, slots: u32) -> Front
+    requires { ⌜ (front .slot .0 + slots ≤ 851969) × (front .relocs + 2 * relocsBy map ≤ length (now relocs)) ⌝ }
+    ensures { λ r. ⌜ Relocates map slots (front .slot .0) (front .relocs) (now (relocs .entry)) (r .slot .0) (r .relocs) (now (relocs .exit)) ⌝ }
 {
     let slot = front.slot;
     let t = front.relocs;
-    put(
-        code,
-        slot,
-        Insn {
-            code: insn::BPF_LD_DW_IMM,
-            dst: insn::R1,
-            src: 1,
-            off: 0,
-            imm: 0,
+    match map {
+        MapUse::Nothing => Front {
+            slot: SlotNumber(slot.0 + slots),
+            relocs: t,
         },
-    );
-    put(
-        code,
-        SlotNumber(slot.0 + 1),
-        Insn {
-            code: 0,
-            dst: 0,
-            src: 0,
-            off: 0,
-            imm: 0,
-        },
-    );
-    let ByteOffset(bytes) = wire::number::byte_offset(slot);
-    relocs[t] = bytes as u32;
-    relocs[t + 1] = m;
-    Front {
-        slot: SlotNumber(slot.0 + 2),
-        relocs: t + 2,
+        MapUse::Map(m) => {
+            let ByteOffset(bytes) = wire::number::byte_offset(slot);
+            relocs[t] = bytes as u32;
+            relocs[t + 1] = m;
+            Front {
+                slot: SlotNumber(slot.0 + slots),
+                relocs: t + 2,
+            }
+        }
     }
 }
 
-// What an instruction becomes.
-fn put_emitted(code: &mut [u8], relocs: &mut [u32], front: Front, e: Emitted) -> Front
-    requires { ⌜ (length (e .list) ≡ 11) × (e .n ≤ 11) ⌝ }
-    requires { ⌜ RoomAt (mapOps (e .map) ++ plainOps (take (e .n) (e .list))) (front .slot .0) (front .relocs) (length (now code)) (length (now relocs)) ⌝ }
-    ensures { λ r. ⌜ ((a b : ℕ) → Puts a b (mapOps (e .map) ++ plainOps (take (e .n) (e .list))) (front .slot .0) (front .relocs) (now (code .entry)) (now (relocs .entry)) (r .slot .0) (r .relocs) (now (code .exit)) (now (relocs .exit))) ⌝ }
+// What an instruction becomes, by its parts.
+fn put_instruction(
+    variables: &[u32],
+    hints: &[u8; 256],
+    marks: &[u8; 56],
+    j: u8,
+    i: Parts,
+    code: &mut [u8],
+    relocs: &mut [u32],
+    front: Front,
+) -> Passed
+    requires { ⌜ length (now variables) ≤ 56 ⌝ }
+    requires { ⌜ RoomAt (ops (at 0 (instructionBy (contextOf (now variables) (now hints) (now marks)) j i))) (front .slot .0) (front .relocs) (length (now code)) (length (now relocs)) ⌝ }
+    ensures { λ r. ⌜ ((a b : ℕ) → Puts a b (ops (at 0 (instructionBy (contextOf (now (variables .entry)) (now (hints .entry)) (now (marks .entry))) j i))) (front .slot .0) (front .relocs) (now (code .entry)) (now (relocs .entry)) (r .front .slot .0) (r .front .relocs) (now (code .exit)) (now (relocs .exit))) ⌝ }
+    ensures { λ r. ⌜ r .scratch ≡ ringAfter j i ⌝ }
 {
-    let use_of = e.map;
-    let list = e.list;
-    let n = e.n;
-    match use_of {
-        MapUse::Nothing => {
-            let slot = front.slot;
-            Front {
-                slot: put_list(code, slot, list, n),
-                relocs: front.relocs,
-            }
-        }
-        MapUse::Map(m) => {
-            let past = put_map(code, relocs, front, m);
-            let slot = past.slot;
-            Front {
-                slot: put_list(code, slot, list, n),
-                relocs: past.relocs,
-            }
-        }
+    let opcode = i.opcode;
+    let few = i.few;
+    let condition = context::is_condition(variables, hints, marks, i.result);
+    let slot = front.slot;
+    let e = lower::lower_instruction(
+        code,
+        8 * (slot.0 as usize),
+        variables,
+        hints,
+        j,
+        condition,
+        i.result,
+        opcode,
+        few,
+    );
+    let map = e.map;
+    Passed {
+        front: put_relocation(relocs, front, map, e.slots),
+        scratch: lower::scratch_after(j, opcode, few),
     }
 }
 
@@ -209,42 +194,52 @@ fn put_ending(code: &mut [u8], front: Front, t: Ending, a: SlotNumber, b: SlotNu
 
 // ---- records
 
-// What a record becomes, in the block of a state.
+// What the record at a place becomes, by its kind, in the block of a state.
 fn put_record(
+    unit: &[u8],
     variables: &[u32],
+    hints: &[u8; 256],
     marks: &[u8; 56],
     edges: &[u32; 1025],
     numbers: &[u32; 2048],
     st: State,
-    value: Record,
+    kind: u16,
+    place: usize,
     code: &mut [u8],
     relocs: &mut [u32],
     front: Front,
-) -> Front
-    requires { ⌜ (length (now variables) ≤ 56) × (length (now edges) ≡ 1025) × (length (now numbers) ≡ 2048) × (st .block + length (atEnd 0 value) ≤ 1024) ⌝ }
-    requires { ⌜ RoomAt (ops (recordOps (contextOf (now variables) (now marks)) st 0 value)) (front .slot .0) (front .relocs) (length (now code)) (length (now relocs)) ⌝ }
-    requires { ⌜ reaches (slotTo (now edges) (now numbers) (2 * st .block)) (slotTo (now edges) (now numbers) (2 * st .block + 1)) (front .slot .0) (ops (recordOps (contextOf (now variables) (now marks)) st 0 value)) ≡ true ⌝ }
-    ensures { λ r. ⌜ Puts (slotTo (now (edges .entry)) (now (numbers .entry)) (2 * st .block)) (slotTo (now (edges .entry)) (now (numbers .entry)) (2 * st .block + 1)) (ops (recordOps (contextOf (now (variables .entry)) (now (marks .entry))) st 0 value)) (front .slot .0) (front .relocs) (now (code .entry)) (now (relocs .entry)) (r .slot .0) (r .relocs) (now (code .exit)) (now (relocs .exit)) ⌝ }
+) -> Passed
+    requires { ⌜ (length (now variables) ≤ 56) × (place ≤ 262144) × (length (now edges) ≡ 1025) × (length (now numbers) ≡ 2048) × (st .block + length (endIn 0 kind) ≤ 1024) ⌝ }
+    requires { ⌜ RoomAt (ops (opsIn (contextOf (now variables) (now hints) (now marks)) st (now unit) place kind)) (front .slot .0) (front .relocs) (length (now code)) (length (now relocs)) ⌝ }
+    requires { ⌜ reaches (slotTo (now edges) (now numbers) (2 * st .block)) (slotTo (now edges) (now numbers) (2 * st .block + 1)) (front .slot .0) (ops (opsIn (contextOf (now variables) (now hints) (now marks)) st (now unit) place kind)) ≡ true ⌝ }
+    ensures { λ r. ⌜ Puts (slotTo (now (edges .entry)) (now (numbers .entry)) (2 * st .block)) (slotTo (now (edges .entry)) (now (numbers .entry)) (2 * st .block + 1)) (ops (opsIn (contextOf (now (variables .entry)) (now (hints .entry)) (now (marks .entry))) st (now (unit .entry)) place kind)) (front .slot .0) (front .relocs) (now (code .entry)) (now (relocs .entry)) (r .front .slot .0) (r .front .relocs) (now (code .exit)) (now (relocs .exit)) ⌝ }
+    ensures { λ r. ⌜ r .scratch ≡ scratchIn st (now (unit .entry)) place kind ⌝ }
 {
     if st.emits {
-        return match value {
-            Record::Instruction(i) => {
-                let condition = context::is_condition(variables, marks, i.result);
-                let e = lower::lower_instruction(variables, st.scratch, condition, i);
-                put_emitted(code, relocs, front, e)
-            }
-            Record::Terminator(t) => {
-                let k = st.block;
-                let a = first_slot(edges, numbers[2 * k]);
-                let b = first_slot(edges, numbers[2 * k + 1]);
-                put_ending(code, front, lower::lower_terminator(variables, t), a, b)
-            }
-            Record::Block(_) => front,
-            Record::Head(_) => front,
-            Record::Map { start: _, len: _ } => front,
+        if kind == 4 {
+            let i = parts::parts_at(unit, place);
+            return put_instruction(variables, hints, marks, st.scratch, i, code, relocs, front);
+        }
+        if kind == 5 {
+            let k = st.block;
+            let a = first_slot(edges, numbers[2 * k]);
+            let b = first_slot(edges, numbers[2 * k + 1]);
+            let t = record::terminator::terminator_in(unit, place + 4);
+            let ending = lower::lower_terminator(variables, hints, t);
+            return Passed {
+                front: put_ending(code, front, ending, a, b),
+                scratch: st.scratch,
+            };
+        }
+        return Passed {
+            front: front,
+            scratch: st.scratch,
         };
     }
-    front
+    Passed {
+        front: front,
+        scratch: st.scratch,
+    }
 }
 
 // A unit that was read whole: slot 0, then the emitted blocks.
@@ -252,6 +247,7 @@ pub(crate) fn write_unit(
     unit: &[u8],
     found: Found,
     variables: &[u32],
+    hints: &[u8; 256],
     marks: &[u8; 56],
     emitted: &[u8; 1024],
     edges: &[u32; 1025],
@@ -261,14 +257,13 @@ pub(crate) fn write_unit(
 )
     requires { ⌜ readUnit (now unit) ≡ ReadUnit.Unit found ⌝ }
     requires { ⌜ (length (now variables) ≤ 56) × (length (now emitted) ≡ 1024) × (length (now edges) ≡ 1025) × (length (now numbers) ≡ 2048) ⌝ }
-    requires { ⌜ Tables (contextOf (now variables) (now marks)) (marked (now emitted)) (blocksOf (parse (now unit))) (now edges) (now numbers) ⌝ }
-    requires { ⌜ unitLanding (contextOf (now variables) (now marks)) (marked (now emitted)) (blocksOf (parse (now unit))) ≡ lands ⌝ }
-    requires { ⌜ Room (ops (unitOps (contextOf (now variables) (now marks)) (keepBy (marked (now emitted)) 0 (blocksOf (parse (now unit)))))) (length (now code)) (length (now relocs)) ⌝ }
-    ensures { λ _. ⌜ now (code .exit) ≡ sets (now (code .entry)) 0 (codeBytes (insns (starts (contextOf (now (variables .entry)) (now (marks .entry))) (keepBy (marked (now (emitted .entry))) 0 (blocksOf (parse (now (unit .entry)))))) 0 (ops (unitOps (contextOf (now (variables .entry)) (now (marks .entry))) (keepBy (marked (now (emitted .entry))) 0 (blocksOf (parse (now (unit .entry))))))))) ⌝ }
-    ensures { λ _. ⌜ now (relocs .exit) ≡ sets (now (relocs .entry)) 0 (relocations 0 (ops (unitOps (contextOf (now (variables .entry)) (now (marks .entry))) (keepBy (marked (now (emitted .entry))) 0 (blocksOf (parse (now (unit .entry)))))))) ⌝ }
+    requires { ⌜ Tables (contextOf (now variables) (now hints) (now marks)) (marked (now emitted)) (blocksOf (parse (now unit))) (now edges) (now numbers) ⌝ }
+    requires { ⌜ unitLanding (contextOf (now variables) (now hints) (now marks)) (marked (now emitted)) (blocksOf (parse (now unit))) ≡ lands ⌝ }
+    requires { ⌜ Room (ops (unitOps (contextOf (now variables) (now hints) (now marks)) (keepBy (marked (now emitted)) 0 (blocksOf (parse (now unit)))))) (length (now code)) (length (now relocs)) ⌝ }
+    ensures { λ _. ⌜ now (code .exit) ≡ sets (now (code .entry)) 0 (codeBytes (insns (starts (contextOf (now (variables .entry)) (now (hints .entry)) (now (marks .entry))) (keepBy (marked (now (emitted .entry))) 0 (blocksOf (parse (now (unit .entry)))))) 0 (ops (unitOps (contextOf (now (variables .entry)) (now (hints .entry)) (now (marks .entry))) (keepBy (marked (now (emitted .entry))) 0 (blocksOf (parse (now (unit .entry))))))))) ⌝ }
+    ensures { λ _. ⌜ now (relocs .exit) ≡ sets (now (relocs .entry)) 0 (relocations 0 (ops (unitOps (contextOf (now (variables .entry)) (now (hints .entry)) (now (marks .entry))) (keepBy (marked (now (emitted .entry))) 0 (blocksOf (parse (now (unit .entry)))))))) ⌝ }
 {
     let head = found.head;
-    let maps = head.maps;
     let mut c = Cursor {
         at: found.body,
         blocks: head.blocks,
@@ -295,21 +290,26 @@ pub(crate) fn write_unit(
         relocs: 0,
     };
     loop {
-        let Step::Go(value, next) = unitfile::next_record(unit, maps, c) else {
+        let p = peek::peek(unit, c);
+        if p.kind == 0 {
             return;
-        };
-        front = put_record(
+        }
+        let passed = put_record(
+            unit,
             variables,
+            hints,
             marks,
             edges,
             numbers,
             st,
-            value,
+            p.kind,
+            c.at,
             code,
             relocs,
             front,
         );
-        st = walk::after(emitted, st, value);
-        c = next;
+        front = passed.front;
+        st = walk::after(emitted, st, p.kind, passed.scratch);
+        c = p.next;
     }
 }

@@ -1,5 +1,7 @@
 pub mod Choice
 pub mod Run
+pub mod Peeking
+pub mod Skips
 pub mod Blocks
 pub mod Places
 pub mod Sizes

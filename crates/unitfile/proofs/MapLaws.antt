@@ -5,12 +5,14 @@ use mathlib.Core.List.{List, [], _∷_, _++_}
 use Prim.Native.Nat.{ℕ, zero, suc, _+_, _-_, _<_, _≤_}
 use native.Mathlib.Nat.{add-zero, zero-add, suc-add}
 use native.Mathlib.Omega.{arith}
-use borrow.Author.Tests.{ltb-true, ltb-false}
-use lib.Dec.{ltb}
+use borrow.Author.Tests.{ltb-true, ltb-false, le-leb}
+use lib.Dec.{leb, ltb}
 use lib.ListN.{length, getD, length-append, List·getD-append}
 use lib.Seq.{getD-append-seam}
 use Rattle.wire.specs.Pick.{pick}
-use Rattle.record.specs.Record.{readRecord}
+use Rattle.record.specs.Frame.{lengthAt, wholeAt, nextAt}
+use Rattle.record.specs.Record.{readRecord, checkedOf}
+use Rattle.record.specs.declared.Checked.the-variants as Ch
 use Rattle.record.specs.declared.Record.{Record}
 use Rattle.record.specs.declared.Record.the-variants as R
 use Rattle.record.specs.declared.Due.the-variants as Du
@@ -36,6 +38,9 @@ pub record IsMap (b : List ℕ) (at start len next : ℕ) : Type 0 where
   pub ends : next ≡ start + len
   pub within : next ≤ length b
   pub short : len ≤ 64
+  pub whole : wholeAt b at ≡ true
+  pub length : lengthAt b at ≡ len
+  pub after : nextAt b at ≡ next
 
 module _ (b : List ℕ) (at : ℕ) where
   is-map-by : (x : Read) → readRecord b at Du.Map 0 ≡ x → (start len next : ℕ) → mapOf at x ≡ M.Is start len next → readRecord b at Du.Map 0 ≡ Re.Record (R.Map start len) next
@@ -52,17 +57,53 @@ module _ (b : List ℕ) (at : ℕ) where
   is-map-by (Re.Refused f) h start len next e = let z : _≡_ {A = ℕ} 0 1 = cc in absurd (omega arith)
 
   pub is-map : (start len next : ℕ) → mapAt b at ≡ M.Is start len next → IsMap b at start len next
-  unfolding mapAt
+  unfolding mapAt wholeAt nextAt
   is-map start len next e =
       let r = is-map-by (readRecord b at Du.Map 0) refl start len next e in
       let t = record-taken b at Du.Map 0 (R.Map start len) next r in
       let m = t .came in
-      record { read = r; begins = m .0; ends = omega arith; within = t .within; short = m .1 .1 }
+      record {
+        read = r;
+        begins = m .0;
+        ends = omega arith;
+        within = t .within;
+        short = m .1 .1;
+        whole = rw (le-leb (at + 4) (length b) (omega (arith, t .within, t .later)), le-leb (at + 4 + lengthAt b at) (length b) (omega (arith, t .within, t .ends))) refl;
+        length = omega (arith, t .ends, m .0, m .1 .0);
+        after = sym (t .ends);
+      }
 
--- a record that was read as a map
-pub map-read : (b : List ℕ) (at : ℕ) (x : Read) (r : Record) (start len next : ℕ) → x ≡ readRecord b at Du.Map 0 → x ≡ Re.Record r next → r ≡ R.Map start len → mapAt b at ≡ M.Is start len next
-unfolding mapAt mapOf
-map-read b at x r start len next p q e = rw (← p, q, e)
+  -- a record that was checked as a map's
+  pub record MapChecked (next : ℕ) : Type 0 where
+    pub map : mapAt b at ≡ M.Is (at + 4) (next - (at + 4)) next
+    pub later : at + 4 ≤ next
+    pub within : next ≤ length b
+
+  checked-by : (x : Read) → readRecord b at Du.Map 0 ≡ x → (kind next : ℕ) → checkedOf x ≡ Ch.Next kind next → MapChecked next
+  unfolding checkedOf mapAt mapOf
+  checked-by (Re.Record (R.Map from len) n) h kind next e =
+      let t = record-taken b at Du.Map 0 (R.Map from len) n h in
+      let m = t .came in
+      let z : n ≡ next = cc in
+      let l : len ≡ next - (at + 4) = omega (arith, z, m .0, m .1 .0) in
+      record { map = rw (h, m .0, l, z) refl; later = omega (arith, t .later, z); within = omega (arith, t .within, z) }
+  checked-by (Re.Record (R.Head x) n) h kind next e = absurd (record-taken b at Du.Map 0 (R.Head x) n h .came)
+  checked-by (Re.Record (R.Block x) n) h kind next e = absurd (record-taken b at Du.Map 0 (R.Block x) n h .came)
+  checked-by (Re.Record (R.Instruction x) n) h kind next e = absurd (record-taken b at Du.Map 0 (R.Instruction x) n h .came)
+  checked-by (Re.Record (R.Terminator x) n) h kind next e = absurd (record-taken b at Du.Map 0 (R.Terminator x) n h .came)
+  checked-by (Re.Refused f) h kind next e = let z : _≡_ {A = ℕ} 0 1 = cc in absurd (omega arith)
+
+  pub map-checked : (kind next : ℕ) → checkedOf (readRecord b at Du.Map 0) ≡ Ch.Next kind next → MapChecked next
+  map-checked = checked-by _ refl
+
+  refused-by-check : (x : Read) → readRecord b at Du.Map 0 ≡ x → (f : Fault) → checkedOf x ≡ Ch.Refused f → mapOf at x ≡ M.Refused f
+  unfolding checkedOf mapOf
+  refused-by-check (Re.Record r n) h f e = let z : _≡_ {A = ℕ} 0 1 = cc in absurd (omega arith)
+  refused-by-check (Re.Refused g) h f e = let z : g ≡ f = cc in ap M.Refused z
+
+  pub map-refused : (f : Fault) → checkedOf (readRecord b at Du.Map 0) ≡ Ch.Refused f → mapAt b at ≡ M.Refused f
+  unfolding mapAt
+  map-refused f e = refused-by-check _ refl f e
 
 pub lies-at : (n : ℕ) (m : MapAt) (start len next : ℕ) → m ≡ M.Is start len next → Lies n m → start + len ≤ n
 unfolding Lies
@@ -150,27 +191,34 @@ pick-none : (s : Bool) → s ≡ pick s true false
 pick-none true = refl
 pick-none false = refl
 
+taken-map : (b name : List ℕ) (at k start len next : ℕ) → mapAt b at ≡ M.Is start len next → takenFrom b name at (suc k) ≡ pick (sameName name (part start len b)) true (takenFrom b name next k)
+unfolding takenFrom
+taken-map b name at k start len next e =
+    let m = is-map b at start len next e in
+    rw (m .whole, m .length, m .after, m .begins) refl
+
 -- the code finds it by walking over them again
 pub taken-among : (b name : List ℕ) (k : ℕ) (names : List (List ℕ)) (at : ℕ) (all : List (List ℕ)) (end : ℕ) → namesAt b names at k ≡ named all end → among name all ≡ pick (among name names) true (takenFrom b name at k)
-unfolding namesAt takenFrom onMapAt
+unfolding namesAt takenFrom
 taken-among b name zero names at all end e =
     let z : names ≡ all = cc in
     ap (among name) (sym z) ∙ pick-none (among name names)
 taken-among b name (suc k) names at all end e =
     let r = read-one b names at k all end e in
     taken-among b name k _ (r .next) all end (r .rest)
-    ∙ rw (r .map, among-more name names (part (r .start) (r .len) b)) (pick-some (among name names) _ _)
+    ∙ rw (among-more name names (part (r .start) (r .len) b)) (pick-some (among name names) _ _)
+    ∙ ap (λ (x : Bool). pick (among name names) true x) (sym (taken-map b name at k (r .start) (r .len) (r .next) (r .map)))
 
 module _ (b name : List ℕ) (at : ℕ) where
-  pub taken-step : (n start len next : ℕ) → 0 < n → mapAt b at ≡ M.Is start len next → takenFrom b name at n ≡ pick (sameName name (part start len b)) true (takenFrom b name next (n - 1))
-  unfolding takenFrom onMapAt
-  taken-step zero start len next h e = absurd (omega arith)
-  taken-step (suc n) start len next h e = let m : suc n - 1 ≡ n = omega arith in rw (e, m)
+  pub taken-step : (n len : ℕ) → 0 < n → len ≡ lengthAt b at → pick (leb (at + 4) (length b)) (leb (at + 4 + len) (length b)) false ≡ true → takenFrom b name at n ≡ pick (sameName name (part (at + 4) len b)) true (takenFrom b name (at + 4 + len) (n - 1))
+  unfolding takenFrom wholeAt nextAt
+  taken-step zero len h l e = absurd (omega arith)
+  taken-step (suc n) len h l e = let m : suc n - 1 ≡ n = omega arith in rw (← l, e, m) refl
 
-  pub taken-stop : (n : ℕ) (f : Fault) → mapAt b at ≡ M.Refused f → takenFrom b name at n ≡ false
-  unfolding takenFrom onMapAt
-  taken-stop zero f e = refl
-  taken-stop (suc n) f e = rw e refl
+  pub taken-stop : (n len : ℕ) → len ≡ lengthAt b at → pick (leb (at + 4) (length b)) (leb (at + 4 + len) (length b)) false ≡ false → takenFrom b name at n ≡ false
+  unfolding takenFrom wholeAt
+  taken-stop zero len l e = refl
+  taken-stop (suc n) len l e = rw (← l, e) refl
 
 module _ (b : List ℕ) (at : ℕ) where
   pub from-step : (n start len next : ℕ) → 0 < n → mapAt b at ≡ M.Is start len next → mapFrom b at n ≡ mapFrom b next (n - 1)

@@ -13,12 +13,12 @@ use Rattle.record.specs.declared.Head.{Head}
 use Rattle.record.specs.declared.Record.{Record}
 use Rattle.record.specs.declared.Record.the-variants as R
 use Rattle.record.specs.declared.Fault.{Fault}
-use Rattle.record.specs.declared.Fault.the-variants.{NoHead, NotDue}
+use Rattle.record.specs.declared.Fault.the-variants.{NoHead}
 use Rattle.record.specs.declared.Read.{Read}
 use Rattle.record.specs.declared.Read.the-variants as Re
 use Rattle.unitfile.specs.Names.{Names, named, namesAt, firstRecord, Opened, opened, shut, withNames, onHead, openUnit}
 use Rattle.unitfile.specs.Names as ns
-use Rattle.unitfile.specs.Inner.{headOf, mapOf, mapsOf, mapFrom, bodyOf}
+use Rattle.unitfile.specs.Inner.{headOf, mapsOf, mapFrom, bodyOf}
 use Rattle.unitfile.specs.Records.{Placed, Records, records, cons, recordsFrom}
 use Rattle.unitfile.specs.Records as rs
 use Rattle.unitfile.specs.Unit.{parsed, refused, none, group, withRecords, firstBlock, onOpened, parse, foundWith, foundIn, readUnit}
@@ -32,14 +32,6 @@ use Rattle.unitfile.specs.declared.names.HeadAt.the-variants as H
 use Rattle.unitfile.proofs.MapLaws.{names-count, NameAt, name-at}
 
 -- ---- what an `else` knows: the record is another one
-
-pub not-map : (at : ℕ) (r : Record) (next : ℕ) → OneOf (0 ∷ 2 ∷ 3 ∷ 4 ∷ []) (tagOf the-type r) → mapOf at (Re.Record r next) ≡ M.Refused (NotDue at)
-unfolding mapOf
-not-map at (R.Head h) next t = refl
-not-map at (R.Map start len) next t = absurd (⊎-elim (λ (e : 1 ≡ 0). omega arith) (⊎-elim (λ (e : 1 ≡ 2). omega arith) (⊎-elim (λ (e : 1 ≡ 3). omega arith) (λ (e : 1 ≡ 4). omega arith))) t)
-not-map at (R.Block id) next t = refl
-not-map at (R.Instruction i) next t = refl
-not-map at (R.Terminator i) next t = refl
 
 pub not-head : (r : Record) (next : ℕ) → OneOf (1 ∷ 2 ∷ 3 ∷ 4 ∷ []) (tagOf the-type r) → headOf (Re.Record r next) ≡ H.Refused NoHead
 unfolding headOf

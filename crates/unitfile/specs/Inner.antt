@@ -3,13 +3,21 @@ use Prim.Native.Nat.{ℕ, zero, suc, _+_, _≤_}
 use mathlib.Core.Bool.{Bool, true, false}
 use mathlib.Core.List.{List}
 use Rattle.wire.specs.Pick.{pick}
+use Rattle.record.specs.Frame.{lengthAt, wholeAt, nextAt}
 use Rattle.record.specs.Record.{readRecord}
 use Rattle.record.specs.declared.Record.the-variants as R
+use Rattle.record.specs.declared.Checked.{Checked}
+use Rattle.record.specs.declared.Checked.the-variants as Ch
 use Rattle.record.specs.declared.Due.the-variants as Du
 use Rattle.record.specs.declared.Fault.{Fault}
 use Rattle.record.specs.declared.Fault.the-variants.{TooLong, NoHead, NotDue, Broken}
 use Rattle.record.specs.declared.Read.{Read}
 use Rattle.record.specs.declared.Read.the-variants as Re
+use Rattle.unitfile.specs.declared.Cursor.{Cursor}
+use Rattle.unitfile.specs.declared.Step.{Step}
+use Rattle.unitfile.specs.declared.Step.the-variants as St
+use Rattle.unitfile.specs.declared.walk.Skip.{Skip}
+use Rattle.unitfile.specs.declared.walk.Skip.the-variants as Sk
 use Rattle.unitfile.specs.declared.ReadUnit.{ReadUnit}
 use Rattle.unitfile.specs.declared.ReadUnit.the-variants as U
 use Rattle.unitfile.specs.declared.names.MapAt.{MapAt}
@@ -18,12 +26,23 @@ use Rattle.unitfile.specs.declared.names.Maps.{Maps}
 use Rattle.unitfile.specs.declared.names.Maps.the-variants as Ms
 use Rattle.unitfile.specs.declared.names.HeadAt.{HeadAt}
 use Rattle.unitfile.specs.declared.names.HeadAt.the-variants as H
+use Rattle.unitfile.specs.Peek.{after}
 use Rattle.unitfile.specs.Names.{sameName, part, Names, named, refused, Opened, opened, shut}
 
 -- why no record was read, where none was
 unfoldable pub faultOf : Read → Fault
 faultOf (Re.Record r next) = TooLong
 faultOf (Re.Refused f) = f
+
+-- a step with no value made of its record
+unfoldable pub skipOf : Step → Skip
+skipOf (St.Go r c) = Sk.Go c
+skipOf St.End = Sk.End
+skipOf (St.Refused f) = Sk.Refused f
+
+unfoldable pub onChecked : Cursor → Checked → Skip
+onChecked c (Ch.Next kind next) = Sk.Go (after c kind next)
+onChecked c (Ch.Refused f) = Sk.Refused f
 
 -- the head, and the byte after it
 unfoldable pub headOf : Read → HeadAt
@@ -55,10 +74,10 @@ unfoldable pub onMapAt : {A : Type 0} → MapAt → (ℕ → ℕ → ℕ → A) 
 onMapAt (M.Is start len next) go other = go start len next
 onMapAt (M.Refused f) go other = other
 
--- one of the k maps from a byte on has the name
+-- one of the k records from a byte on, which are maps', has the name
 unfoldable pub takenFrom : List ℕ → List ℕ → ℕ → ℕ → Bool
 takenFrom b name at zero = false
-takenFrom b name at (suc k) = onMapAt (mapAt b at) (λ start len next. pick (sameName name (part start len b)) true (takenFrom b name next k)) false
+takenFrom b name at (suc k) = pick (wholeAt b at) (pick (sameName name (part (at + 4) (lengthAt b at) b)) true (takenFrom b name (nextAt b at) k)) false
 
 -- the map at a byte is one more after the k from the first on
 unfoldable pub oneMore : List ℕ → ℕ → ℕ → ℕ → MapAt → Maps

@@ -1,5 +1,6 @@
 // The whole unit file.
 mod names;
+pub mod peek;
 mod walk;
 
 use names::HeadAt;

@@ -2,6 +2,7 @@
 use crate::Found;
 use crate::ReadUnit;
 use crate::walk;
+use record::Checked;
 use record::Due;
 use record::Fault;
 use record::Head;
@@ -26,17 +27,16 @@ pub enum MapAt {
 pub(crate) fn map_at(s: &[u8], at: usize) -> MapAt
     ensures { λ r. ⌜ (r ≡ mapAt (now (s .entry)) at) × Lies (length (now (s .entry))) r ⌝ }
 {
-    let read = record::read_record(s, at, Due::Map, 0);
-    let Read::Record(r, next) = read else {
-        return MapAt::Refused(walk::fault(read));
-    };
-    let Record::Map { start, len } = r else {
-        return MapAt::Refused(Fault::NotDue(at));
-    };
-    MapAt::Is {
-        start: start,
-        len: len,
-        next: next,
+    match record::check_record(s, at, Due::Map, 0) {
+        Checked::Next(_, next) => {
+            let start = at + 4;
+            MapAt::Is {
+                start: start,
+                len: next - start,
+                next: next,
+            }
+        }
+        Checked::Refused(f) => MapAt::Refused(f),
     }
 }
 
@@ -80,22 +80,25 @@ fn same(a: &[u8], b: &[u8]) -> bool
     true
 }
 
-// Whether one of the k maps from a byte on has the name.
+// Whether one of the k maps from a byte on has the name. They are known to be maps.
 fn taken(s: &[u8], name: &[u8], first: usize, k: u16) -> bool
     ensures { λ r. ⌜ r ≡ takenFrom (now (s .entry)) (now (name .entry)) first k ⌝ }
 {
     let mut at = first;
     let mut left = k;
     while 0 < left {
-        let MapAt::Is { start, len, next } = map_at(s, at) else {
+        let len = wire::get_u16(s, at) as usize;
+        if record::whole(s.len(), at, len) {
+            let start = at + 4;
+            let end = start + len;
+            if same(name, &s[start..end]) {
+                return true;
+            }
+            at = end;
+            left = left - 1;
+        } else {
             return false;
-        };
-        let end = start + len;
-        if same(name, &s[start..end]) {
-            return true;
         }
-        at = next;
-        left = left - 1;
     }
     false
 }

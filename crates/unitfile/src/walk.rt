@@ -3,14 +3,17 @@ use crate::Cursor;
 use crate::Found;
 use crate::ReadUnit;
 use crate::Step;
+use crate::peek;
+use record::Checked;
+use record::Due;
 use record::Fault;
 use record::Read;
 use record::Record;
 ghost use mathlib.Core.Path.{_≡_};
 ghost use Prim.Native.Nat.{_-_};
-ghost use Rattle.unitfile.specs.Records.{moved, onRecord, recordsFrom};
+ghost use Rattle.unitfile.specs.Records.{moved, onRecord, nextRecord, recordsFrom};
 ghost use Rattle.unitfile.specs.Unit.{firstBlock, foundWith};
-ghost use Rattle.unitfile.specs.Inner.{faultOf};
+ghost use Rattle.unitfile.specs.Inner.{faultOf, skipOf, onChecked};
 
 // Why no record was read, where none was.
 pub(crate) fn fault(read: Read) -> Fault
@@ -22,7 +25,7 @@ pub(crate) fn fault(read: Read) -> Fault
     }
 }
 
-fn one_less(n: u32) -> u32
+pub(crate) fn one_less(n: u32) -> u32
     ensures { λ r. ⌜ r ≡ n - 1 ⌝ }
 {
     if n == 0 {
@@ -73,6 +76,39 @@ pub(crate) fn on_record(c: Cursor, read: Read) -> Step
     Step::Go(r, moved(c, r, next))
 }
 
+// A step with no value made of its record.
+pub enum Skip {
+    Go(Cursor),
+    End,
+    Refused(Fault),
+}
+
+fn on_checked(c: Cursor, checked: Checked) -> Skip
+    ensures { λ r. ⌜ r ≡ onChecked c checked ⌝ }
+{
+    match checked {
+        Checked::Next(kind, next) => Skip::Go(peek::after(c, kind, next)),
+        Checked::Refused(f) => Skip::Refused(f),
+    }
+}
+
+// The step at a cursor, in a unit of so many maps.
+fn skip_record(s: &[u8], maps: u16, c: Cursor) -> Skip
+    ensures { λ r. ⌜ r ≡ skipOf (nextRecord (now (s .entry)) maps c) ⌝ }
+{
+    let at = c.at;
+    if c.inside {
+        return on_checked(c, record::check_record(s, at, Due::Inside, maps));
+    }
+    if c.blocks == 0 {
+        if at == s.len() {
+            return Skip::End;
+        }
+        return Skip::Refused(Fault::NotDue(at));
+    }
+    on_checked(c, record::check_record(s, at, Due::Block, maps))
+}
+
 // The blocks of a unit whose maps were read.
 pub(crate) fn read_blocks(s: &[u8], found: Found) -> ReadUnit
     ensures { λ r. ⌜ r ≡ foundWith found (recordsFrom (now (s .entry)) (found .head .maps) (firstBlock (found .head) (found .body))) ⌝ }
@@ -85,14 +121,14 @@ pub(crate) fn read_blocks(s: &[u8], found: Found) -> ReadUnit
         inside: false,
     };
     loop {
-        match crate::next_record(s, maps, c) {
-            Step::Go(_, next) => {
+        match skip_record(s, maps, c) {
+            Skip::Go(next) => {
                 c = next;
             }
-            Step::End => {
+            Skip::End => {
                 return ReadUnit::Unit(found);
             }
-            Step::Refused(f) => {
+            Skip::Refused(f) => {
                 return ReadUnit::Refused(f);
             }
         }

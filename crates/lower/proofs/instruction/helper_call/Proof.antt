@@ -4,14 +4,13 @@ use native.Mathlib.Omega.{arith}
 use lib.IntN.{pos}
 use mir.Syntax.{w32}
 use mir.ValLaws.{toZ-pos}
-use Rattle.ir.specs.Operands.{listOf}
 use Rattle.insn.specs.Form.{opcodeOf}
-use Rattle.frame.specs.Cell.{frameOf}
+use Rattle.frame.specs.Hint.{frameBy}
 use Rattle.lower.specs.Op.{insn}
 use Rattle.lower.specs.Operand.{call}
-use Rattle.lower.specs.Held.{held}
 use Rattle.lower.specs.Step.{one, mapOps}
-use Rattle.lower.proofs.Compose.{_▹_, alone, two, five, are-three, not-three}
+use Rattle.lower.proofs.Counts.{few-three, few-not-three}
+use Rattle.lower.proofs.Compose.{along, none-put, two, five}
 use Rattle.lower.proofs.Pieces.{none-small, three-small, helper-none, helper-some, helper-16, helper-three, helper-other}
 use borrow.Author.Needs.{needs}
 use Rattle.lower.proofs.instruction.helper_call.Statement.{statement}
@@ -20,12 +19,18 @@ use Rattle.lower.proofs.instruction.helper_call.Tie as tie
 takes-none-requires : tie.Need-takes-none-requires
 takes-none-requires c κs = search needs
 
-count-requires : tie.Need-count-requires
-count-requires c κs = search needs
+refused-requires : tie.Need-refused-requires
+refused-requires c κs = search needs
+
+returns : tie.Need-returns
+returns c =
+    let s = c .before .before .before .before .before .before in
+    none-put (c .refused .ensures) (helper-some (frameBy (s .args .variables .now) (s .args .hints .now)) (s .args .result) (s .args .id) (s .args .few) (c .before .before .before .takes-none .ensures) (c .before .before .if1 .taken) (c .before .if2 .taken))
 
 cast-plain : tie.Need-cast-plain
 cast-plain c =
-    let h = none-small ((c .before .before .before .before .before) .args .id) (sym (c .before .before .before .takes-none .ensures) ∙ c .before .before .if1 .taken) in
+    let s = c .before .before .before .before .before .before in
+    let h = none-small (s .args .id) (sym (c .before .before .before .takes-none .ensures) ∙ c .before .before .if1 .taken) in
     record { sfits = omega arith }
 
 plain-requires : tie.Need-plain-requires
@@ -37,50 +42,35 @@ keep-requires c κs = search needs
 two-requires : tie.Need-two-requires
 two-requires c κs = search needs
 
-returns : tie.Need-returns
-unfolding mapOps call insn opcodeOf one
-returns c =
-    let s = (c .before .before .before .before .before .before .before .before) in
-    let f = frameOf (s .args .variables .now) in
-    let l = listOf (s .args .list) in
-    let h = none-small (s .args .id) (sym (c .before .before .before .before .before .before .takes-none .ensures) ∙ c .before .before .before .before .before .if1 .taken) in
-    let id = c .before .before .plain .ensures ∙ ap (one 0x85 0 0 (pos 0)) (toZ-pos w32 (s .args .id) (omega arith)) in
-    c .two .ensures ∙ ap held ((alone id ▹ c .before .keep .ensures) ∙ helper-none f (s .args .result) (s .args .id) l (c .before .before .before .before .before .before .takes-none .ensures) (c .before .before .before .before .before .if1 .taken) (c .before .before .before .before .count .ensures) (c .before .before .before .if2 .taken))
-
-refused-requires : tie.Need-refused-requires
-refused-requires c κs = search needs
+same-length : tie.Need-same-length
+same-length c = search needs
 
 returns-2 : tie.Need-returns-2
+unfolding mapOps call insn opcodeOf one
 returns-2 c =
-    let s = (c .before .before .before .before .before .before) in
-    let f = frameOf (s .args .variables .now) in
-    let l = listOf (s .args .list) in
-    c .refused .ensures ∙ ap held (helper-some f (s .args .result) (s .args .id) l (c .before .before .before .before .takes-none .ensures) (c .before .before .before .if1 .taken) (c .before .before .count .ensures) (c .before .if2 .left))
+    let s = c .before .before .before .before .before .before .before .before .before .before .before in
+    let h = none-small (s .args .id) (sym (c .before .before .before .before .before .before .before .before .takes-none .ensures) ∙ c .before .before .before .before .before .before .before .if1 .taken) in
+    let id = c .before .before .before .before .plain .ensures ∙ ap (one 0x85 0 0 (pos 0)) (toZ-pos w32 (s .args .id) (omega arith)) in
+    along (helper-none (frameBy (s .args .variables .now) (s .args .hints .now)) (s .args .result) (s .args .id) (s .args .few) (c .before .before .before .before .before .before .before .before .takes-none .ensures) (c .before .before .before .before .before .before .before .if1 .taken) (c .before .before .before .before .before .before .if2 .left)) (two (c .before .before .two .ensures) id (c .before .before .before .keep .ensures))
 
 refused-requires-2 : tie.Need-refused-requires-2
 refused-requires-2 c κs = search needs
 
 returns-3 : tie.Need-returns-3
 returns-3 c =
-    let s = (c .before .before .before .before .before) in
-    let f = frameOf (s .args .variables .now) in
-    let l = listOf (s .args .list) in
-    c .refused2 .ensures ∙ ap held (helper-16 f (s .args .result) (s .args .id) l (c .before .before .before .takes-none .ensures) (c .before .before .if1 .left) (c .before .if3 .taken))
+    let s = c .before .before .before .before .before .before in
+    none-put (c .refused2 .ensures) (helper-16 (frameBy (s .args .variables .now) (s .args .hints .now)) (s .args .result) (s .args .id) (s .args .few) (c .before .before .before .takes-none .ensures) (c .before .before .if1 .left) (c .before .if3 .taken))
 
 takes-three-requires : tie.Need-takes-three-requires
 takes-three-requires c κs = search needs
 
-exactly-three-requires : tie.Need-exactly-three-requires
-exactly-three-requires c κs = search needs
-
-enum-known-n : tie.Need-enum-known-n
-enum-known-n c = search needs
-
 refused-requires-3 : tie.Need-refused-requires-3
 refused-requires-3 c κs = search needs
 
-enum-known-a : tie.Need-enum-known-a
-enum-known-a c = search needs
+returns-4 : tie.Need-returns-4
+returns-4 c =
+    let s = c .before .before .before .before .before .before .before .before .before in
+    none-put (c .refused3 .ensures) (few-not-three (s .args .few) _ (c .before .if5 .taken) ∙ helper-three (frameBy (s .args .variables .now) (s .args .hints .now)) (s .args .result) (s .args .id) (s .args .few) (c .before .before .before .before .before .before .takes-none .ensures) (c .before .before .before .before .before .if1 .left) (c .before .before .before .before .if3 .left) (c .before .before .before .takes-three .ensures) (c .before .before .if4 .taken))
 
 load-requires : tie.Need-load-requires
 load-requires c κs = search needs
@@ -93,7 +83,8 @@ load-requires-3 c κs = search needs
 
 cast-plain-2 : tie.Need-cast-plain-2
 cast-plain-2 c =
-    let h = three-small ((c .before .before .before .before .before .before .before .before .before .before .before .before .before) .args .id) (sym (c .before .before .before .before .before .before .before .before .takes-three .ensures) ∙ c .before .before .before .before .before .before .before .if4 .taken) in
+    let s = c .before .before .before .before .before .before .before .before .before .before .before .before in
+    let h = three-small (s .args .id) (sym (c .before .before .before .before .before .before .takes-three .ensures) ∙ c .before .before .before .before .before .if4 .taken) in
     record { sfits = omega arith }
 
 plain-requires-2 : tie.Need-plain-requires-2
@@ -105,65 +96,25 @@ keep-requires-2 c κs = search needs
 five-requires : tie.Need-five-requires
 five-requires c κs = search needs
 
-returns-4 : tie.Need-returns-4
-returns-4 c =
-    let s = (c .before .before .before .before .before .before .before .before .before .before .before) in
-    let f = frameOf (s .args .variables .now) in
-    let l = listOf (s .args .list) in
-    c .refused3 .ensures
-    ∙ ap held (not-three l _ (c .before .before .before .before .exactly-three .ensures) (c .before .before .n .given .1) ∙ helper-three f (s .args .result) (s .args .id) l (c .before .before .before .before .before .before .before .before .before .takes-none .ensures) (c .before .before .before .before .before .before .before .before .if1 .left) (c .before .before .before .before .before .before .before .if3 .left) (c .before .before .before .before .before .before .takes-three .ensures) (c .before .before .before .before .before .if4 .taken))
+same-length-2 : tie.Need-same-length-2
+same-length-2 c = search needs
 
 returns-5 : tie.Need-returns-5
 unfolding mapOps call insn opcodeOf one
 returns-5 c =
-    let s = (c .before .before .before .before .before .before .before .before .before .before .before .before .before .before .before .before) in
-    let f = frameOf (s .args .variables .now) in
-    let l = listOf (s .args .list) in
+    let s = c .before .before .before .before .before .before .before .before .before .before .before .before .before .before .before .before .before in
     let h = three-small (s .args .id) (sym (c .before .before .before .before .before .before .before .before .before .before .before .takes-three .ensures) ∙ c .before .before .before .before .before .before .before .before .before .before .if4 .taken) in
-    let id = c .before .before .plain2 .ensures ∙ ap (one 0x85 0 0 (pos 0)) (toZ-pos w32 (s .args .id) (omega arith)) in
-    c .five .ensures
-    ∙ ap held ((alone (c .before .before .before .before .before .load .ensures) ▹ c .before .before .before .before .load2 .ensures ▹ c .before .before .before .load3 .ensures ▹ id ▹ c .before .keep2 .ensures)
-    ∙ are-three l _ (c .before .before .before .before .before .before .before .before .before .exactly-three .ensures) (c .before .before .before .before .before .before .before .a .given .1)
-    ∙ helper-three f (s .args .result) (s .args .id) l (c .before .before .before .before .before .before .before .before .before .before .before .before .before .before .takes-none .ensures) (c .before .before .before .before .before .before .before .before .before .before .before .before .before .if1 .left) (c .before .before .before .before .before .before .before .before .before .before .before .before .if3 .left) (c .before .before .before .before .before .before .before .before .before .before .before .takes-three .ensures) (c .before .before .before .before .before .before .before .before .before .before .if4 .taken))
+    let id = c .before .before .before .before .plain2 .ensures ∙ ap (one 0x85 0 0 (pos 0)) (toZ-pos w32 (s .args .id) (omega arith)) in
+    along (few-three (s .args .few) _ (c .before .before .before .before .before .before .before .before .before .if5 .left) ∙ helper-three (frameBy (s .args .variables .now) (s .args .hints .now)) (s .args .result) (s .args .id) (s .args .few) (c .before .before .before .before .before .before .before .before .before .before .before .before .before .before .takes-none .ensures) (c .before .before .before .before .before .before .before .before .before .before .before .before .before .if1 .left) (c .before .before .before .before .before .before .before .before .before .before .before .before .if3 .left) (c .before .before .before .before .before .before .before .before .before .before .before .takes-three .ensures) (c .before .before .before .before .before .before .before .before .before .before .if4 .taken))
+    (five (c .before .before .five .ensures) (c .before .before .before .before .before .before .before .load .ensures) (c .before .before .before .before .before .before .load2 .ensures) (c .before .before .before .before .before .load3 .ensures) id (c .before .before .before .keep2 .ensures))
 
 refused-requires-4 : tie.Need-refused-requires-4
 refused-requires-4 c κs = search needs
 
 returns-6 : tie.Need-returns-6
 returns-6 c =
-    let s = (c .before .before .before .before .before .before .before) in
-    let f = frameOf (s .args .variables .now) in
-    let l = listOf (s .args .list) in
-    c .refused4 .ensures ∙ ap held (helper-other f (s .args .result) (s .args .id) l (c .before .before .before .before .before .takes-none .ensures) (c .before .before .before .before .if1 .left) (c .before .before .before .if3 .left) (c .before .before .takes-three .ensures) (c .before .if4 .left))
+    let s = c .before .before .before .before .before .before .before .before in
+    none-put (c .refused4 .ensures) (helper-other (frameBy (s .args .variables .now) (s .args .hints .now)) (s .args .result) (s .args .id) (s .args .few) (c .before .before .before .before .before .takes-none .ensures) (c .before .before .before .before .if1 .left) (c .before .before .before .if3 .left) (c .before .before .takes-three .ensures) (c .before .if4 .left))
 
 pub helper-call-spec : {M : Type 1} → statement M
-helper-call-spec =
-    tie.close
-    (tie.spec
-    takes-none-requires
-    count-requires
-    cast-plain
-    plain-requires
-    keep-requires
-    two-requires
-    returns
-    refused-requires
-    returns-2
-    refused-requires-2
-    returns-3
-    takes-three-requires
-    exactly-three-requires
-    enum-known-n
-    refused-requires-3
-    enum-known-a
-    load-requires
-    load-requires-2
-    load-requires-3
-    cast-plain-2
-    plain-requires-2
-    keep-requires-2
-    five-requires
-    returns-4
-    returns-5
-    refused-requires-4
-    returns-6)
+helper-call-spec = tie.close (tie.spec takes-none-requires refused-requires returns cast-plain plain-requires keep-requires two-requires same-length returns-2 refused-requires-2 returns-3 takes-three-requires refused-requires-3 returns-4 load-requires load-requires-2 load-requires-3 cast-plain-2 plain-requires-2 keep-requires-2 five-requires same-length-2 returns-5 refused-requires-4 returns-6)

@@ -1,96 +1,44 @@
 -- NullCheck.
-use mathlib.Core.Path.{ap, _∙_}
 use Rattle.lower.specs.Instruction.{opcode}
-use Rattle.lower.specs.Held.{held}
 use Rattle.lower.specs.Step.{mapOps}
-use Rattle.lower.proofs.Compose.{_▹_, alone, four, five, has-first, has-none}
-use Rattle.lower.proofs.Pieces.{null-branch, null-exit}
+use Rattle.lower.proofs.Counts.{few-first, few-no-first}
+use Rattle.lower.proofs.Compose.{along, none-put, null-five}
+use Rattle.lower.proofs.Pieces.{null-parts}
 use borrow.Author.Needs.{needs}
 use Rattle.lower.proofs.instruction.null_check.Statement.{statement}
 use Rattle.lower.proofs.instruction.null_check.Tie as tie
 
-first-requires : tie.Need-first-requires
-first-requires c κs = search needs
-
-enum-told : tie.Need-enum-told
-enum-told c = search needs
-
 refused-requires : tie.Need-refused-requires
 refused-requires c κs = search needs
 
-enum-known-a : tie.Need-enum-known-a
-enum-known-a c = search needs
+returns : tie.Need-returns
+unfolding opcode
+returns c = none-put (c .refused .ensures) (few-no-first (c .before .before .before .before .before .args .few) _ (c .before .if1 .taken))
 
 load-requires : tie.Need-load-requires
 load-requires c κs = search needs
 
-plain-requires : tie.Need-plain-requires
-plain-requires c κs = search needs
+null-test-requires : tie.Need-null-test-requires
+null-test-requires c κs = search needs
 
-plain-requires-2 : tie.Need-plain-requires-2
-plain-requires-2 c κs = search needs
+null-zero-requires : tie.Need-null-zero-requires
+null-zero-requires c κs = search needs
+
+null-rest-requires : tie.Need-null-rest-requires
+null-rest-requires c κs = search needs
 
 keep-requires : tie.Need-keep-requires
 keep-requires c κs = search needs
 
-plain-requires-3 : tie.Need-plain-requires-3
-plain-requires-3 c κs = search needs
+five-requires : tie.Need-five-requires
+five-requires c κs = search needs
 
-plain-requires-4 : tie.Need-plain-requires-4
-plain-requires-4 c κs = search needs
-
-six-requires : tie.Need-six-requires
-six-requires c κs = search needs
-
-plain-requires-5 : tie.Need-plain-requires-5
-plain-requires-5 c κs = search needs
-
-plain-requires-6 : tie.Need-plain-requires-6
-plain-requires-6 c κs = search needs
-
-plain-requires-7 : tie.Need-plain-requires-7
-plain-requires-7 c κs = search needs
-
-seven-requires : tie.Need-seven-requires
-seven-requires c κs = search needs
-
-returns : tie.Need-returns
-unfolding opcode
-returns c = c .refused .ensures ∙ ap held (has-none ((c .before .before .before .before .before) .args .list) _ (c .before .before .before .first .ensures) (c .before .enum-told .given .1))
+same-length : tie.Need-same-length
+same-length c = search needs
 
 returns-2 : tie.Need-returns-2
 unfolding opcode mapOps
-returns-2 c =
-    c .six .ensures
-    ∙ ap held ((four (alone (c .before .before .before .before .before .before .before .load .ensures)) (c .before .before .plain3 .ensures) (c .before .before .before .before .before .plain2 .ensures) (c .before .plain4 .ensures) (c .before .before .before .before .before .before .plain .ensures) (null-branch (c .before .before .before .if1 .taken)) ▹ c .before .before .before .before .keep .ensures)
-    ∙ has-first ((c .before .before .before .before .before .before .before .before .before .before .before .before .before) .args .list) _ (c .before .before .before .before .before .before .before .before .before .before .before .first .ensures) (c .before .before .before .before .before .before .before .before .before .a .given .1))
-
-returns-3 : tie.Need-returns-3
-unfolding opcode mapOps
-returns-3 c =
-    c .seven .ensures
-    ∙ ap held ((five (alone (c .before .before .before .before .before .before .before .before .load .ensures)) (c .before .before .before .plain5 .ensures) (c .before .before .plain6 .ensures) (c .before .before .before .before .before .before .before .plain .ensures) (c .before .plain7 .ensures) (c .before .before .before .before .before .before .plain2 .ensures) (null-exit (c .before .before .before .before .if1 .left)) ▹ c .before .before .before .before .before .keep .ensures)
-    ∙ has-first ((c .before .before .before .before .before .before .before .before .before .before .before .before .before .before) .args .list) _ (c .before .before .before .before .before .before .before .before .before .before .before .before .first .ensures) (c .before .before .before .before .before .before .before .before .before .before .a .given .1))
+returns-2 c = along (few-first (c .before .before .before .before .before .before .before .before .before .before .before .before .before .args .few) _ (c .before .before .before .before .before .before .before .before .before .if1 .left)) (null-five (c .before .before .five .ensures) (c .before .before .before .before .before .before .before .load .ensures) (c .before .before .before .before .before .before .null-test .ensures) (c .before .before .before .before .before .null-zero .ensures) (c .before .before .before .before .null-rest .ensures) (null-parts _) (c .before .before .before .keep .ensures))
 
 pub null-check-spec : {M : Type 1} → statement M
-null-check-spec =
-    tie.close
-    (tie.spec
-    first-requires
-    enum-told
-    refused-requires
-    enum-known-a
-    load-requires
-    plain-requires
-    plain-requires-2
-    keep-requires
-    plain-requires-3
-    plain-requires-4
-    six-requires
-    plain-requires-5
-    plain-requires-6
-    plain-requires-7
-    seven-requires
-    returns
-    returns-2
-    returns-3)
+null-check-spec = tie.close (tie.spec refused-requires returns load-requires null-test-requires null-zero-requires null-rest-requires keep-requires five-requires same-length returns-2)

@@ -1,15 +1,14 @@
 -- RingBufReserve.
-use mathlib.Core.Path.{refl, ap, _∙_}
+use mathlib.Core.Path.{ap, _∙_}
 use native.Mathlib.Omega.{arith}
 use mir.Syntax.{w64}
 use mir.ValLaws.{toZ-pos}
 use Rattle.insn.specs.Form.{opcodeOf}
 use Rattle.lower.specs.Op.{insn}
-use Rattle.lower.specs.Operand.{fits32, constant, move, call, mapAddress}
+use Rattle.lower.specs.Operand.{fits32, constant, call, mapAddress}
 use Rattle.lower.specs.Instruction.{opcode}
-use Rattle.lower.specs.Held.{held}
 use Rattle.lower.specs.Step.{one, mapOps}
-use Rattle.lower.proofs.Compose.{_▹_, four}
+use Rattle.lower.proofs.Compose.{map-four}
 use borrow.Author.Needs.{needs}
 use Rattle.lower.proofs.instruction.reserve.Statement.{statement}
 use Rattle.lower.proofs.instruction.reserve.Tie as tie
@@ -32,21 +31,15 @@ keep-requires c κs = search needs
 four-requires : tie.Need-four-requires
 four-requires c κs = search needs
 
+same-length : tie.Need-same-length
+same-length c = search needs
+
 returns : tie.Need-returns
-unfolding opcode mapOps mapAddress call constant fits32 move insn opcodeOf one
+unfolding opcode mapOps mapAddress call fits32 insn opcodeOf one constant
 returns c =
-    let s = (c .before .before .before .before .before .before) in
-    let size = c .before .before .before .before .constant .ensures ∙ ap (constant 2) (toZ-pos w64 (s .args .size) (omega (arith, s .fits .size .fits))) in
-    c .four .ensures ∙ ap held (refl ▹ size ▹ c .before .before .before .plain .ensures ▹ c .before .before .plain2 .ensures ▹ c .before .keep .ensures)
+    let s = c .before .before .before .before .before .before .before .before .before .before in
+    let size = c .before .before .before .before .before .before .constant .ensures ∙ ap (constant 2) (toZ-pos w64 (s .args .size) (omega (arith, s .fits .size .fits))) in
+    map-four _ (c .before .before .four .ensures) size (c .before .before .before .before .before .plain .ensures) (c .before .before .before .before .plain2 .ensures) (c .before .before .before .keep .ensures)
 
 pub reserve-spec : {M : Type 1} → statement M
-reserve-spec =
-    tie.close
-    (tie.spec
-    cast-constant
-    constant-requires
-    plain-requires
-    plain-requires-2
-    keep-requires
-    four-requires
-    returns)
+reserve-spec = tie.close (tie.spec cast-constant constant-requires plain-requires plain-requires-2 keep-requires four-requires same-length returns)

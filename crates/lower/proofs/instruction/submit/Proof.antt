@@ -1,27 +1,21 @@
 -- RingBufSubmit.
-use mathlib.Core.Path.{ap, _∙_}
 use Rattle.insn.specs.Form.{opcodeOf}
 use Rattle.lower.specs.Op.{insn}
 use Rattle.lower.specs.Operand.{fits32, constant, call}
 use Rattle.lower.specs.Instruction.{opcode}
-use Rattle.lower.specs.Held.{held}
 use Rattle.lower.specs.Step.{one, mapOps}
-use Rattle.lower.proofs.Compose.{_▹_, alone, five, has-first, has-none}
+use Rattle.lower.proofs.Counts.{few-first, few-no-first}
+use Rattle.lower.proofs.Compose.{along, none-put, five}
 use borrow.Author.Needs.{needs}
 use Rattle.lower.proofs.instruction.submit.Statement.{statement}
 use Rattle.lower.proofs.instruction.submit.Tie as tie
 
-first-requires : tie.Need-first-requires
-first-requires c κs = search needs
-
-enum-told : tie.Need-enum-told
-enum-told c = search needs
-
 refused-requires : tie.Need-refused-requires
 refused-requires c κs = search needs
 
-enum-known-a : tie.Need-enum-known-a
-enum-known-a c = search needs
+returns : tie.Need-returns
+unfolding opcode
+returns c = none-put (c .refused .ensures) (few-no-first (c .before .before .before .before .before .args .few) _ (c .before .if1 .taken))
 
 load-requires : tie.Need-load-requires
 load-requires c κs = search needs
@@ -41,27 +35,12 @@ keep-requires c κs = search needs
 five-requires : tie.Need-five-requires
 five-requires c κs = search needs
 
-returns : tie.Need-returns
-unfolding opcode
-returns c = c .refused .ensures ∙ ap held (has-none ((c .before .before .before .before .before) .args .list) _ (c .before .before .before .first .ensures) (c .before .enum-told .given .1))
+same-length : tie.Need-same-length
+same-length c = search needs
 
 returns-2 : tie.Need-returns-2
 unfolding opcode mapOps call constant fits32 insn opcodeOf one
-returns-2 c = c .five .ensures ∙ ap held ((alone (c .before .before .before .before .before .load .ensures) ▹ c .before .before .before .before .plain .ensures ▹ c .before .before .before .plain2 .ensures ▹ c .before .before .plain3 .ensures ▹ c .before .keep .ensures) ∙ has-first ((c .before .before .before .before .before .before .before .before .before .before .before) .args .list) _ (c .before .before .before .before .before .before .before .before .before .first .ensures) (c .before .before .before .before .before .before .before .a .given .1))
+returns-2 c = along (few-first (c .before .before .before .before .before .before .before .before .before .before .before .before .before .args .few) _ (c .before .before .before .before .before .before .before .before .before .if1 .left)) (five (c .before .before .five .ensures) (c .before .before .before .before .before .before .before .load .ensures) (c .before .before .before .before .before .before .plain .ensures) (c .before .before .before .before .before .plain2 .ensures) (c .before .before .before .before .plain3 .ensures) (c .before .before .before .keep .ensures))
 
 pub submit-spec : {M : Type 1} → statement M
-submit-spec =
-    tie.close
-    (tie.spec
-    first-requires
-    enum-told
-    refused-requires
-    enum-known-a
-    load-requires
-    plain-requires
-    plain-requires-2
-    plain-requires-3
-    keep-requires
-    five-requires
-    returns
-    returns-2)
+submit-spec = tie.close (tie.spec refused-requires returns load-requires plain-requires plain-requires-2 plain-requires-3 keep-requires five-requires same-length returns-2)

@@ -1,62 +1,61 @@
 -- UpdateMap.
 use mathlib.Core.Path.{ap, _∙_}
-use mir.Syntax.{w64}
-use Rattle.wire.proofs.Sign.{back}
+use Prim.Native.Nat.{ℕ}
+use lib.IntN.{pos}
+use Rattle.frame.specs.Hint.{frameBy}
+use Rattle.lower.specs.Operand.{addr, constant, call, mapAddress}
 use Rattle.lower.specs.Instruction.{opcode}
-use Rattle.lower.specs.Held.{held}
-use Rattle.lower.proofs.Compose.{not-two, is-two}
+use Rattle.lower.specs.Step.{mapOps}
+use Rattle.lower.proofs.Counts.{few-two, few-not-two}
+use Rattle.lower.proofs.Compose.{along, none-put, update-six}
+use Rattle.lower.proofs.Pieces.{addr-parts, same-scratch}
 use borrow.Author.Needs.{needs}
 use Rattle.lower.proofs.instruction.update_map.Statement.{statement}
 use Rattle.lower.proofs.instruction.update_map.Tie as tie
 
-exactly-two-requires : tie.Need-exactly-two-requires
-exactly-two-requires c κs = search needs
-
-enum-known-n : tie.Need-enum-known-n
-enum-known-n c = search needs
-
 refused-requires : tie.Need-refused-requires
 refused-requires c κs = search needs
 
-enum-known-a : tie.Need-enum-known-a
-enum-known-a c = search needs
-
-enum-known-a-2 : tie.Need-enum-known-a-2
-enum-known-a-2 c = search needs
-
-update-from-cell-requires : tie.Need-update-from-cell-requires
-update-from-cell-requires c κs = search needs
-
-enum-known-a-3 : tie.Need-enum-known-a-3
-enum-known-a-3 c = search needs
-
-update-from-scratch-requires : tie.Need-update-from-scratch-requires
-update-from-scratch-requires c κs = search needs
-
 returns : tie.Need-returns
 unfolding opcode
-returns c = c .refused .ensures ∙ ap held (not-two _ _ (c .before .before .before .before .exactly-two .ensures) (c .before .before .n .given .1))
+returns c = none-put (c .refused .ensures) (few-not-two (c .before .before .before .before .args .few) _ (c .before .if1 .taken))
+
+next-requires : tie.Need-next-requires
+next-requires c κs = search needs
+
+put-scratch-requires : tie.Need-put-scratch-requires
+put-scratch-requires c κs = search needs
+
+take-addr-requires : tie.Need-take-addr-requires
+take-addr-requires c κs = search needs
+
+put-scratch-requires-2 : tie.Need-put-scratch-requires-2
+put-scratch-requires-2 c κs = search needs
+
+take-addr-requires-2 : tie.Need-take-addr-requires-2
+take-addr-requires-2 c κs = search needs
+
+call-update-requires : tie.Need-call-update-requires
+call-update-requires c κs = search needs
+
+keep-requires : tie.Need-keep-requires
+keep-requires c κs = search needs
+
+six-requires : tie.Need-six-requires
+six-requires c κs = search needs
+
+same-length : tie.Need-same-length
+same-length c = search needs
 
 returns-2 : tie.Need-returns-2
-returns-2 c = rw (is-two _ (c .before .before .before .before .before .before .before .exactly-two .ensures) (c .before .before .before .before .before .a .given .1), c .before .before .a2 .given .1) (c .update-from-cell .ensures)
-
-returns-3 : tie.Need-returns-3
-returns-3 c =
-    let z = back w64 (c .before .before .a3 .given .0 .0) (c .before .known-told4 .given .0 .1) in
-    c .update-from-scratch .ensures ∙ rw (is-two _ (c .before .before .before .before .before .before .before .exactly-two .ensures) (c .before .before .before .before .before .a .given .1), c .before .before .a3 .given .1, z)
+unfolding opcode mapOps mapAddress
+returns-2 c =
+    let s = c .before .before .before .before .before .before .before .before .before .before .before .before .before .before in
+    let f = frameBy (s .args .variables .now) (s .args .hints .now) in
+    let k = c .before .before .before .before .before .before .before .before .before .before .next in
+    let value = addr-parts f (k .result) 3 (s .args .few .b) ∙ ap (λ (j : ℕ). addr f j 3 (s .args .few .b)) (k .ensures) in
+    along (few-two (s .args .few) _ (c .before .before .before .before .before .before .before .before .before .before .before .if1 .left))
+    (update-six _ (constant 4 (pos 0)) (call 2) (c .before .before .six .ensures) (c .before .before .before .before .before .before .before .before .put-scratch .ensures ∙ same-scratch (s .args .variables .now) (s .args .hints .now) (s .args .j) 2 (s .args .few .a)) (c .before .before .before .before .before .before .before .take-addr .ensures) (addr-parts f (s .args .j) 2 (s .args .few .a)) (c .before .before .before .before .before .before .put-scratch2 .ensures ∙ same-scratch (s .args .variables .now) (s .args .hints .now) (k .result) 3 (s .args .few .b)) (c .before .before .before .before .before .take-addr2 .ensures) value (c .before .before .before .before .call-update .ensures) (c .before .before .before .keep .ensures))
 
 pub update-map-spec : {M : Type 1} → statement M
-update-map-spec =
-    tie.close
-    (tie.spec
-    exactly-two-requires
-    enum-known-n
-    refused-requires
-    enum-known-a
-    enum-known-a-2
-    update-from-cell-requires
-    enum-known-a-3
-    update-from-scratch-requires
-    returns
-    returns-2
-    returns-3)
+update-map-spec = tie.close (tie.spec refused-requires returns next-requires put-scratch-requires take-addr-requires put-scratch-requires-2 take-addr-requires-2 call-update-requires keep-requires six-requires same-length returns-2)

@@ -1,11 +1,9 @@
--- `constant` is MOV64.
-use mathlib.Core.Path.{_∙_}
+-- `constant` is a MOV64.
+use mathlib.Core.Path.{ap, _∙_}
 use mir.Syntax.{w64}
 use mir.ValLaws.{toZ-ofZ}
-use Rattle.insn.specs.Form.{opcodeOf}
-use Rattle.lower.specs.Op.{insn}
-use Rattle.lower.specs.Operand.{constant}
-use Rattle.lower.specs.Step.{one, withConstant}
+use Rattle.lower.specs.Step.{withConstant}
+use Rattle.lower.proofs.Pieces.{is-constant}
 use borrow.Author.Needs.{needs}
 use Rattle.lower.proofs.operand.constant.Statement.{statement}
 use Rattle.lower.proofs.operand.constant.Tie as tie
@@ -13,9 +11,13 @@ use Rattle.lower.proofs.operand.constant.Tie as tie
 with-constant-requires : tie.Need-with-constant-requires
 with-constant-requires c κs = search needs
 
+single-requires : tie.Need-single-requires
+single-requires c κs = search needs
+
 returns : tie.Need-returns
-unfolding constant insn opcodeOf withConstant one
-returns c = c .with-constant .ensures ∙ rw (toZ-ofZ w64 (c .before .args .z) (c .before .fits .z))
+returns c =
+    let s = c .before .before in
+    c .single .ensures ∙ c .before .with-constant .ensures ∙ ap (withConstant 0xb7 (s .args .r)) (toZ-ofZ w64 (s .args .z) (s .fits .z)) ∙ is-constant (s .args .r) (s .args .z)
 
 pub constant-spec : {M : Type 1} → statement M
-constant-spec = tie.close (tie.spec with-constant-requires returns)
+constant-spec = tie.close (tie.spec with-constant-requires single-requires returns)

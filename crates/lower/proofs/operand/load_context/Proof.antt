@@ -7,7 +7,7 @@ use mir.Syntax.{w16, w32}
 use mir.ValLaws.{toZ-ofZ}
 use Rattle.lower.specs.Operand.{fits16}
 use Rattle.lower.specs.Instruction.{sized, mem}
-use Rattle.lower.specs.Step.{one}
+use Rattle.lower.specs.Step.{pieceOf, outcomeOf, opsOf, all, one}
 use Rattle.lower.proofs.Range.{below, above, inside, cast-fits, cast-is}
 use borrow.Author.Needs.{needs}
 use Rattle.lower.proofs.operand.load_context.Statement.{statement}
@@ -19,23 +19,17 @@ ldx-mem-requires c κs = search needs
 enum-known-code : tie.Need-enum-known-code
 enum-known-code c = search needs
 
-refuse-requires : tie.Need-refuse-requires
-refuse-requires c κs = search needs
-
 returns : tie.Need-returns
-unfolding sized fits16
+unfolding pieceOf outcomeOf opsOf all sized fits16
 returns c =
-    let s = c .before .before .before .before .before .before in
-    c .refuse .ensures ∙ rw (← c .before .before .before .before .before .ldx-mem .ensures, c .before .before .before .code .given .1, below w32 (s .args .offset) 32767 (s .fits .offset) (c .before .if1 .taken), toZ-ofZ w32 (s .args .offset) (s .fits .offset))
-
-refuse-requires-2 : tie.Need-refuse-requires-2
-refuse-requires-2 c κs = search needs
+    let s = c .before .before .before .before .before in
+    rw (← c .before .before .before .before .ldx-mem .ensures, c .before .before .code .given .1, below w32 (s .args .offset) 32767 (s .fits .offset) (c .if1 .taken), toZ-ofZ w32 (s .args .offset) (s .fits .offset))
 
 returns-2 : tie.Need-returns-2
-unfolding sized fits16
+unfolding pieceOf outcomeOf opsOf all sized fits16
 returns-2 c =
-    let s = c .before .before .before .before .before .before .before in
-    c .refuse2 .ensures ∙ rw (← c .before .before .before .before .before .before .ldx-mem .ensures, c .before .before .before .before .code .given .1, above w32 (s .args .offset) 32767 (s .fits .offset) (c .before .if2 .taken), toZ-ofZ w32 (s .args .offset) (s .fits .offset))
+    let s = c .before .before .before .before .before .before in
+    rw (← c .before .before .before .before .before .ldx-mem .ensures, c .before .before .before .code .given .1, above w32 (s .args .offset) 32767 (s .fits .offset) (c .if2 .taken), toZ-ofZ w32 (s .args .offset) (s .fits .offset))
 
 cast-plain : tie.Need-cast-plain
 cast-plain c =
@@ -49,9 +43,6 @@ plain-requires c κs = search needs
 enum-told : tie.Need-enum-told
 enum-told c = search needs
 
-refuse-requires-3 : tie.Need-refuse-requires-3
-refuse-requires-3 c κs = search needs
-
 returns-3 : tie.Need-returns-3
 unfolding sized fits16 mem one
 returns-3 c =
@@ -60,22 +51,8 @@ returns-3 c =
     c .plain .ensures ∙ rw (← c .before .before .before .before .before .before .ldx-mem .ensures, c .before .before .before .before .code .given .1, cast-is w32 w16 (s .args .offset) (s .fits .offset) (record { sfits = omega arith }), lt-ltb (mag (s .args .offset)) 32768 (omega arith))
 
 returns-4 : tie.Need-returns-4
-unfolding sized
-returns-4 c = c .refuse3 .ensures ∙ rw (← c .before .before .before .ldx-mem .ensures, c .before .enum-told .given .1)
+unfolding pieceOf outcomeOf opsOf all sized
+returns-4 c = rw (← c .before .before .ldx-mem .ensures, c .enum-told .given .1)
 
 pub load-context-spec : {M : Type 1} → statement M
-load-context-spec =
-    tie.close
-    (tie.spec
-    ldx-mem-requires
-    enum-known-code
-    refuse-requires
-    returns
-    refuse-requires-2
-    returns-2
-    cast-plain
-    plain-requires
-    enum-told
-    refuse-requires-3
-    returns-3
-    returns-4)
+load-context-spec = tie.close (tie.spec ldx-mem-requires enum-known-code returns returns-2 cast-plain plain-requires enum-told returns-3 returns-4)

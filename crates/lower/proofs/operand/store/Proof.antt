@@ -1,7 +1,7 @@
 -- `store` checks the size.
 use mathlib.Core.Path.{_∙_}
 use Rattle.lower.specs.Instruction.{sized, mem}
-use Rattle.lower.specs.Step.{one}
+use Rattle.lower.specs.Step.{pieceOf, outcomeOf, opsOf, all, one}
 use borrow.Author.Needs.{needs}
 use Rattle.lower.proofs.operand.store.Statement.{statement}
 use Rattle.lower.proofs.operand.store.Tie as tie
@@ -18,25 +18,13 @@ plain-requires c κs = search needs
 enum-told : tie.Need-enum-told
 enum-told c = search needs
 
-refuse-requires : tie.Need-refuse-requires
-refuse-requires c κs = search needs
-
 returns : tie.Need-returns
 unfolding sized mem one
 returns c = c .plain .ensures ∙ rw (← c .before .before .before .before .stx-mem .ensures, c .before .before .code .given .1)
 
 returns-2 : tie.Need-returns-2
-unfolding sized
-returns-2 c = c .refuse .ensures ∙ rw (← c .before .before .before .stx-mem .ensures, c .before .enum-told .given .1)
+unfolding pieceOf outcomeOf opsOf all sized
+returns-2 c = rw (← c .before .before .stx-mem .ensures, c .enum-told .given .1)
 
 pub store-spec : {M : Type 1} → statement M
-store-spec =
-    tie.close
-    (tie.spec
-    stx-mem-requires
-    enum-known-code
-    plain-requires
-    enum-told
-    refuse-requires
-    returns
-    returns-2)
+store-spec = tie.close (tie.spec stx-mem-requires enum-known-code plain-requires enum-told returns returns-2)

@@ -4,13 +4,11 @@ use mathlib.Core.Bool.{true}
 use Prim.Native.Nat.{_+_, _*_}
 use native.Mathlib.Omega.{arith}
 use borrow.Author.Needs.{needs}
-use mir.Syntax.{w32}
+use Rattle.record.proofs.Instructions.{right-size, joined-broken}
 use Rattle.wire.specs.Le.{byteAt}
-use Rattle.wire.proofs.Sign.{back}
 use Rattle.opcode.specs.declared.Fields.{Fields}
-use Rattle.opcode.specs.Opcode.{opcodeOf}
 use Rattle.record.specs.Instruction.{fieldsAt, countAt, joined, sized, instructionAt}
-use Rattle.record.proofs.Instructions.{right-size, fields-read, joined-broken}
+use Rattle.opcode.specs.Opcode.{opcodeOf}
 use Rattle.record.proofs.instruction.instruction_at.Statement.{statement}
 use Rattle.record.proofs.instruction.instruction_at.Tie as tie
 
@@ -20,36 +18,14 @@ is-sized c = sym (c .before .sized .ensures) ∙ c .if1 .taken
 size : (c : tie.Then1) → c .before .before .before .args .len ≡ 16 + 9 * byteAt (c .before .before .before .args .s .now) (c .before .before .before .args .at + 6)
 size c = right-size _ _ _ (is-sized c)
 
-read-opcode : (c : tie.After-opcode-of) → opcodeOf (fieldsAt (c .before .before .before .before .before .before .before .before .args .s .now) (c .before .before .before .before .before .before .before .before .args .at)) (c .before .before .before .before .before .before .before .before .args .maps) ≡ c .opcode-of .result
-read-opcode c =
-    sym (c .opcode-of .ensures ∙ ap (λ (f : Fields). opcodeOf f (c .before .before .before .before .before .before .before .before .args .maps)) (fields-read (c .before .before .before .before .before .before .before .before .args .s .now) (c .before .before .before .before .before .before .before .before .args .at) _ _ (back w32 (c .before .before .get-i32 .result) (c .before .before .get-i32 .ok) ∙ c .before .before .get-i32 .ensures) (c .before .get-u32 .ensures)))
+read-opcode : (c : tie.After-opcode-of) → opcodeOf (fieldsAt (c .before .before .before .before .before .args .s .now) (c .before .before .before .before .before .args .at)) (c .before .before .before .before .before .args .maps) ≡ c .opcode-of .result
+read-opcode c = sym (c .opcode-of .ensures ∙ ap (λ (f : Fields). opcodeOf f (c .before .before .before .before .before .args .maps)) (c .before .fields-at .ensures))
 
 sized-requires : tie.Need-sized-requires
 sized-requires c κs = search needs
 
-add-operands-at : tie.Need-add-operands-at
-add-operands-at c = search needs
-
-shared-slice-read-operands-at : tie.Need-shared-slice-read-operands-at
-shared-slice-read-operands-at c = omega (arith, size (c .before))
-
-add-t12 : tie.Need-add-t12
-add-t12 c = search needs
-
-shared-slice-read-t14 : tie.Need-shared-slice-read-t14
-shared-slice-read-t14 c = omega (arith, size (c .before .before))
-
-add-get-i32 : tie.Need-add-get-i32
-add-get-i32 c = search needs
-
-get-i32-requires : tie.Need-get-i32-requires
-get-i32-requires c κs = search needs
-
-add-get-u32 : tie.Need-add-get-u32
-add-get-u32 c = search needs
-
-get-u32-requires : tie.Need-get-u32-requires
-get-u32-requires c κs = search needs
+fields-at-requires : tie.Need-fields-at-requires
+fields-at-requires c κs = omega (arith, size c)
 
 opcode-of-requires : tie.Need-opcode-of-requires
 opcode-of-requires c κs = search needs
@@ -62,19 +38,19 @@ enum-told c = search needs
 
 returns : tie.Need-returns
 unfolding instructionAt
-returns c = simp (is-sized (c .before .before .before .before .before .before .before), read-opcode (c .before .before), c .enum-told .given .1, joined-broken)
+returns c = simp (is-sized (c .before .before .before .before), read-opcode (c .before .before), c .enum-told .given .1, joined-broken)
+
+add-operands-at : tie.Need-add-operands-at
+add-operands-at c = search needs
 
 add-operands-at-2 : tie.Need-add-operands-at-2
 add-operands-at-2 c = search needs
 
-add-operands-at-3 : tie.Need-add-operands-at-3
-add-operands-at-3 c = search needs
-
-shared-slice-read-operands-at-2 : tie.Need-shared-slice-read-operands-at-2
-shared-slice-read-operands-at-2 c = omega (arith, size (c .before .before .before .before .before .before .before .before .before))
+shared-slice-read-operands-at : tie.Need-shared-slice-read-operands-at
+shared-slice-read-operands-at c = omega (arith, size (c .before .before .before .before .before .before))
 
 operands-at-requires : tie.Need-operands-at-requires
-operands-at-requires c κs = omega (arith, size (c .before .before .before .before .before .before .before .before .before))
+operands-at-requires c κs = search needs
 
 enum-known-list : tie.Need-enum-known-list
 enum-known-list c = search needs
@@ -84,14 +60,14 @@ enum-told-2 c = search needs
 
 returns-2 : tie.Need-returns-2
 unfolding instructionAt countAt joined
-returns-2 c = simp (is-sized (c .before .before .before .before .before .before .before .before .before .before .before .before), read-opcode (c .before .before .before .before .before .before .before), c .before .before .before .before .before .o .given .1, ← c .before .before .operands-at .ensures, c .enum-told2 .given .1)
+returns-2 c = simp (is-sized (c .before .before .before .before .before .before .before .before .before), read-opcode (c .before .before .before .before .before .before .before), c .before .before .before .before .before .o .given .1, ← c .before .before .operands-at .ensures, c .enum-told2 .given .1)
 
-get-u32-requires-2 : tie.Need-get-u32-requires-2
-get-u32-requires-2 c κs = search needs
+get-u32-requires : tie.Need-get-u32-requires
+get-u32-requires c κs = search needs
 
 returns-3 : tie.Need-returns-3
 unfolding instructionAt countAt joined
-returns-3 c = simp (is-sized (c .before .before .before .before .before .before .before .before .before .before .before .before .before .before), read-opcode (c .before .before .before .before .before .before .before .before .before), c .before .before .before .before .before .before .before .o .given .1, ← c .before .before .before .before .operands-at .ensures, c .before .before .list .given .1, ← c .get-u322 .ensures)
+returns-3 c = simp (is-sized (c .before .before .before .before .before .before .before .before .before .before .before), read-opcode (c .before .before .before .before .before .before .before .before .before), c .before .before .before .before .before .before .before .o .given .1, ← c .before .before .before .before .operands-at .ensures, c .before .before .list .given .1, ← c .get-u32 .ensures)
 
 returns-4 : tie.Need-returns-4
 unfolding instructionAt
@@ -102,25 +78,18 @@ instruction-at-spec =
     tie.close
     (tie.spec
     sized-requires
-    add-operands-at
-    shared-slice-read-operands-at
-    add-t12
-    shared-slice-read-t14
-    add-get-i32
-    get-i32-requires
-    add-get-u32
-    get-u32-requires
+    fields-at-requires
     opcode-of-requires
     enum-known-o
     enum-told
     returns
+    add-operands-at
     add-operands-at-2
-    add-operands-at-3
-    shared-slice-read-operands-at-2
+    shared-slice-read-operands-at
     operands-at-requires
     enum-known-list
     enum-told-2
     returns-2
-    get-u32-requires-2
+    get-u32-requires
     returns-3
     returns-4)

@@ -1,42 +1,30 @@
 -- `payload_at` reads the payload of each kind by its rules.
-use borrow.Author.Needs.{needs}
 use borrow.Author.Tests.{le-leb, lt-leb, eq-eqb, ne-eqb}
-use Rattle.record.specs.Payload.{payloadAt, headAt, ofInstruction, ofTerminator}
+use borrow.Author.Needs.{needs}
+use Rattle.record.specs.Payload.{payloadAt, ofInstruction, ofTerminator}
 use Rattle.record.proofs.payload.payload_at.Statement.{statement}
 use Rattle.record.proofs.payload.payload_at.Tie as tie
 
-get-u16-requires : tie.Need-get-u16-requires
-get-u16-requires c κs = search needs
-
-add-get-u16 : tie.Need-add-get-u16
-add-get-u16 c = search needs
-
-get-u16-requires-2 : tie.Need-get-u16-requires-2
-get-u16-requires-2 c κs = search needs
-
-add-get-u32 : tie.Need-add-get-u32
-add-get-u32 c = search needs
-
-get-u32-requires : tie.Need-get-u32-requires
-get-u32-requires c κs = search needs
+head-at-requires : tie.Need-head-at-requires
+head-at-requires c κs = search needs
 
 head-ok-requires : tie.Need-head-ok-requires
 head-ok-requires c κs = search needs
 
 returns : tie.Need-returns
-unfolding payloadAt headAt
-returns c = simp (c .before .before .before .before .before .before .match .keys1, eq-eqb _ 8 (c .before .before .before .before .before .if1 .taken), ← c .before .before .before .before .get-u16 .ensures, ← c .before .before .before .get-u162 .ensures, ← c .before .before .get-u32 .ensures, ← c .before .head-ok .ensures, c .if2 .taken)
+unfolding payloadAt
+returns c = simp (c .before .before .before .before .match .keys1, eq-eqb _ 8 (c .before .before .before .if1 .taken), ← c .before .before .head-at .ensures, ← c .before .head-ok .ensures, c .if2 .taken)
 
 returns-2 : tie.Need-returns-2
 unfolding payloadAt
 returns-2 c = simp (c .before .match .keys2, le-leb _ 64 (c .if3 .taken))
 
-get-u32-requires-2 : tie.Need-get-u32-requires-2
-get-u32-requires-2 c κs = search needs
+get-u32-requires : tie.Need-get-u32-requires
+get-u32-requires c κs = search needs
 
 returns-3 : tie.Need-returns-3
 unfolding payloadAt
-returns-3 c = simp (c .before .before .match .keys3, eq-eqb _ 4 (c .before .if4 .taken), ← c .get-u322 .ensures)
+returns-3 c = simp (c .before .before .match .keys3, eq-eqb _ 4 (c .before .if4 .taken), ← c .get-u32 .ensures)
 
 instruction-at-requires : tie.Need-instruction-at-requires
 instruction-at-requires c κs = search needs
@@ -65,8 +53,8 @@ unfolding payloadAt ofTerminator
 returns-5 c = simp (c .before .before .before .match .keys5, ← c .before .before .terminator-at .ensures, c .enum-told2 .given .1)
 
 returns-6 : tie.Need-returns-6
-unfolding payloadAt headAt
-returns-6 c = simp (c .before .before .before .before .before .before .match .keys1, eq-eqb _ 8 (c .before .before .before .before .before .if1 .taken), ← c .before .before .before .before .get-u16 .ensures, ← c .before .before .before .get-u162 .ensures, ← c .before .before .get-u32 .ensures, ← c .before .head-ok .ensures, c .if2 .left)
+unfolding payloadAt
+returns-6 c = simp (c .before .before .before .before .match .keys1, eq-eqb _ 8 (c .before .before .before .if1 .taken), ← c .before .before .head-at .ensures, ← c .before .head-ok .ensures, c .if2 .left)
 
 returns-7 : tie.Need-returns-7
 unfolding payloadAt
@@ -96,15 +84,11 @@ pub payload-at-spec : {M : Type 1} → statement M
 payload-at-spec =
     tie.close
     (tie.spec
-    get-u16-requires
-    add-get-u16
-    get-u16-requires-2
-    add-get-u32
-    get-u32-requires
+    head-at-requires
     head-ok-requires
     returns
     returns-2
-    get-u32-requires-2
+    get-u32-requires
     returns-3
     instruction-at-requires
     enum-known-i

@@ -1,23 +1,47 @@
 -- `on_record` takes what one record brings.
-use mathlib.Core.Path.{refl}
 use native.Mathlib.Omega.{arith}
-use Rattle.survey.specs.Inner.{ofRecord, idAfter, atEnd}
+use borrow.Author.Tests.{eq-eqb, ne-eqb}
+use Rattle.survey.specs.Inner.{ofRecordIn, idAfterIn, atEndIn}
 use Rattle.survey.proofs.Tallies.{nothing}
 use borrow.Author.Needs.{needs}
 use Rattle.survey.proofs.pass.on_record.Statement.{statement}
 use Rattle.survey.proofs.pass.on_record.Tie as tie
 
-enum-known-value : tie.Need-enum-known-value
-enum-known-value c = search needs
+add-get-u32 : tie.Need-add-get-u32
+add-get-u32 c = search needs
 
-enum-known-value-2 : tie.Need-enum-known-value-2
-enum-known-value-2 c = search needs
+get-u32-requires : tie.Need-get-u32-requires
+get-u32-requires c κs = search needs
+
+returns : tie.Need-returns
+unfolding ofRecordIn idAfterIn atEndIn
+returns c =
+    let s = c .before .before .before in
+    let three = eq-eqb (s .args .kind) 3 (c .before .if1 .taken) in
+    record {
+      takes = rw three (nothing (s .pre .0));
+      id = rw three (c .get-u32 .ensures);
+      block = rw three (omega arith);
+      ids = rw three;
+      endings = rw three;
+    }
 
 with-instruction-requires : tie.Need-with-instruction-requires
 with-instruction-requires c κs = search needs
 
-enum-known-value-3 : tie.Need-enum-known-value-3
-enum-known-value-3 c = search needs
+returns-2 : tie.Need-returns-2
+unfolding ofRecordIn idAfterIn atEndIn
+returns-2 c =
+    let s = c .before .before .before .before .before .before in
+    let three = ne-eqb (s .args .kind) 3 (c .before .before .before .before .if1 .left) in
+    let four = eq-eqb (s .args .kind) 4 (c .before .before .before .if2 .taken) in
+    record {
+      takes = rw (three, four) (c .with-instruction .ensures);
+      id = rw three;
+      block = rw (three, four) (omega arith);
+      ids = rw (three, four);
+      endings = rw (three, four);
+    }
 
 with-terminator-requires : tie.Need-with-terminator-requires
 with-terminator-requires c κs = search needs
@@ -26,8 +50,11 @@ mul-ids : tie.Need-mul-ids
 mul-ids c = search needs
 
 element-write-ids : tie.Need-element-write-ids
-unfolding atEnd
-element-write-ids c = let room = rw (c .before .before .before .value3 .given .1) at (c .before .before .before .before .before .pre .1 .0) in omega arith
+unfolding atEndIn
+element-write-ids c =
+    let s = c .before .before .before .before .before .before in
+    let room = rw (ne-eqb (s .args .kind) 3 (c .before .before .before .before .if1 .left), ne-eqb (s .args .kind) 4 (c .before .before .before .if2 .left)) at (s .pre .1 .0) in
+    omega arith
 
 cast-endings : tie.Need-cast-endings
 cast-endings c = search needs
@@ -36,62 +63,43 @@ mul-endings : tie.Need-mul-endings
 mul-endings c = search needs
 
 element-write-endings : tie.Need-element-write-endings
-unfolding atEnd
-element-write-endings c = let room = rw (c .before .before .before .value3 .given .1) at (c .before .before .before .before .before .pre .1 .0) in omega arith
+unfolding atEndIn
+element-write-endings c =
+    let s = c .before .before .before .before .before .before in
+    let room = rw (ne-eqb (s .args .kind) 3 (c .before .before .before .before .if1 .left), ne-eqb (s .args .kind) 4 (c .before .before .before .if2 .left)) at (s .pre .1 .0) in
+    omega arith
 
-add-t17 : tie.Need-add-t17
-add-t17 c = search needs
-
-enum-told : tie.Need-enum-told
-enum-told c = search needs
-
-enum-told-2 : tie.Need-enum-told-2
-enum-told-2 c = search needs
-
-returns : tie.Need-returns
-unfolding ofRecord idAfter atEnd
-returns c =
-    rw (c .before .value .given .1) (record { takes = nothing (c .before .before .before .pre .0); id = refl; block = omega arith; ids = refl; endings = refl })
-
-returns-2 : tie.Need-returns-2
-unfolding ofRecord idAfter atEnd
-returns-2 c =
-    rw (c .before .before .before .value2 .given .1) (record { takes = c .with-instruction .ensures; id = refl; block = omega arith; ids = refl; endings = refl })
+add-t20 : tie.Need-add-t20
+add-t20 c = search needs
 
 returns-3 : tie.Need-returns-3
-unfolding ofRecord idAfter atEnd
+unfolding ofRecordIn idAfterIn atEndIn
 returns-3 c =
-    rw (c .before .before .before .value3 .given .1) (record { takes = c .with-terminator .ensures; id = refl; block = omega arith; ids = refl; endings = refl })
-
-returns-4 : tie.Need-returns-4
-unfolding ofRecord idAfter atEnd
-returns-4 c =
-    rw (c .enum-told .given .1) (record { takes = nothing (c .before .before .pre .0); id = refl; block = omega arith; ids = refl; endings = refl })
-
-returns-5 : tie.Need-returns-5
-unfolding ofRecord idAfter atEnd
-returns-5 c =
-    rw (c .enum-told2 .given .1) (record { takes = nothing (c .before .before .pre .0); id = refl; block = omega arith; ids = refl; endings = refl })
+    let s = c .before .before .before .before .before .before in
+    let three = ne-eqb (s .args .kind) 3 (c .before .before .before .before .if1 .left) in
+    let four = ne-eqb (s .args .kind) 4 (c .before .before .before .if2 .left) in
+    record {
+      takes = rw (three, four) (c .with-terminator .ensures);
+      id = rw three;
+      block = rw (three, four) (omega arith);
+      ids = rw (three, four);
+      endings = rw (three, four);
+    }
 
 pub on-record-spec : {M : Type 1} → statement M
 on-record-spec =
     tie.close
     (tie.spec
-    enum-known-value
-    enum-known-value-2
+    add-get-u32
+    get-u32-requires
+    returns
     with-instruction-requires
-    enum-known-value-3
+    returns-2
     with-terminator-requires
     mul-ids
     element-write-ids
     cast-endings
     mul-endings
     element-write-endings
-    add-t17
-    enum-told
-    enum-told-2
-    returns
-    returns-2
-    returns-3
-    returns-4
-    returns-5)
+    add-t20
+    returns-3)

@@ -1,6 +1,6 @@
 -- `compile_linked` measures the unit and follows its jumps; each refusal is that of the definitions.
-use borrow.Author.Needs.{needs}
 use mathlib.Core.Path.{refl, sym}
+use borrow.Author.Needs.{needs}
 use Rattle.survey.proofs.Bounds.{blocks-count}
 use Rattle.tracepoint.specs.Inner.{contextOf}
 use Rattle.tracepoint.proofs.Compiling.{when-faulty, edges-size, when-no-target, when-too-far, ready, when-lands}
@@ -40,7 +40,7 @@ write-roomed-requires c κs =
     let q = j .before .before .before .before .before .before .before .before .before .slots .given .1 in
     let m = j .before .before .before .before .before .before .before .before .before .before .before in
     let s = m .before .before .before .before .before .before in
-    (s .pre .0, ((s .pre .1 .0, s .pre .1 .1 .emitted-size), ready (contextOf (s .args .variables .now) (s .args .marks .now)) _ _ _ _ (m .measure .ensures) (s .pre .1 .1) _ _ q refl (sym (blocks-count _ _ (s .pre .0))) (j .check-jumps .ensures) (c .before .before .before .enum-told .given .1)))
+    (s .pre .0, ((s .pre .1 .0, s .pre .1 .1 .emitted-size), ready (contextOf (s .args .variables .now) (s .args .hints .now) (s .args .marks .now)) _ _ _ _ (m .measure .ensures) (s .pre .1 .1) _ _ q refl (sym (blocks-count _ _ (s .pre .0))) (j .check-jumps .ensures) (c .before .before .before .enum-told .given .1)))
 
 returns : tie.Need-returns
 returns c = when-faulty _ _ _ _ _ (c .before .before .before .measure .ensures) _ _ (c .before .place .given .1) _ _
@@ -51,7 +51,7 @@ returns-2 c =
     let q = j .before .before .before .before .before .before .before .before .before .slots .given .1 in
     let m = j .before .before .before .before .before .before .before .before .before .before .before in
     let s = m .before .before .before .before .before .before in
-    when-no-target (contextOf (s .args .variables .now) (s .args .marks .now)) _ _ _ _ (m .measure .ensures) (s .pre .1 .1) _ _ q refl (sym (blocks-count _ _ (s .pre .0))) (j .check-jumps .ensures) _ _ (c .before .place2 .given .1) _ _
+    when-no-target (contextOf (s .args .variables .now) (s .args .hints .now) (s .args .marks .now)) _ _ _ _ (m .measure .ensures) (s .pre .1 .1) _ _ q refl (sym (blocks-count _ _ (s .pre .0))) (j .check-jumps .ensures) _ _ (c .before .place2 .given .1) _ _
 
 returns-3 : tie.Need-returns-3
 returns-3 c =
@@ -59,7 +59,7 @@ returns-3 c =
     let q = j .before .before .before .before .before .before .before .before .before .slots .given .1 in
     let m = j .before .before .before .before .before .before .before .before .before .before .before in
     let s = m .before .before .before .before .before .before in
-    when-too-far (contextOf (s .args .variables .now) (s .args .marks .now)) _ _ _ _ (m .measure .ensures) (s .pre .1 .1) _ _ q refl (sym (blocks-count _ _ (s .pre .0))) (j .check-jumps .ensures) _ _ (c .before .place3 .given .1) _ _
+    when-too-far (contextOf (s .args .variables .now) (s .args .hints .now) (s .args .marks .now)) _ _ _ _ (m .measure .ensures) (s .pre .1 .1) _ _ q refl (sym (blocks-count _ _ (s .pre .0))) (j .check-jumps .ensures) _ _ (c .before .place3 .given .1) _ _
 
 same-length : tie.Need-same-length
 same-length c = search needs
@@ -73,7 +73,7 @@ returns-4 c =
     let q = j .before .before .before .before .before .before .before .before .before .slots .given .1 in
     let m = j .before .before .before .before .before .before .before .before .before .before .before in
     let s = m .before .before .before .before .before .before in
-    when-lands (contextOf (s .args .variables .now) (s .args .marks .now)) _ _ _ _ (m .measure .ensures) (s .pre .1 .1) _ _ q refl (sym (blocks-count _ _ (s .pre .0))) (j .check-jumps .ensures) (c .before .before .before .before .before .before .before .before .enum-told .given .1) (c .before .before .before .before .write-roomed .ensures)
+    when-lands (contextOf (s .args .variables .now) (s .args .hints .now) (s .args .marks .now)) _ _ _ _ (m .measure .ensures) (s .pre .1 .1) _ _ q refl (sym (blocks-count _ _ (s .pre .0))) (j .check-jumps .ensures) (c .before .before .before .before .before .before .before .before .enum-told .given .1) (c .before .before .before .before .write-roomed .ensures)
 
 pub compile-linked-spec : {M : Type 1} → statement M
 compile-linked-spec =

@@ -1,51 +1,43 @@
--- `map_at` reads a map's record, whose name lies in the unit.
-use mathlib.Core.Path.{sym}
-use native.Mathlib.Omega.{arith}
+-- `map_at` checks a map's record, whose name lies in the unit.
 use borrow.Author.Needs.{needs}
-use Rattle.unitfile.specs.Inner.{faultOf, mapOf, mapAt, Lies}
-use Rattle.unitfile.proofs.MapLaws.{is-map, map-read}
-use Rattle.unitfile.proofs.Whole.{not-map}
+use native.Mathlib.Omega.{arith}
+use mathlib.Core.Path.{sym, _∙_}
+use Rattle.unitfile.specs.Inner.{Lies}
+use Rattle.unitfile.proofs.MapLaws.{map-checked, map-refused}
 use Rattle.unitfile.proofs.names.map_at.Statement.{statement}
 use Rattle.unitfile.proofs.names.map_at.Tie as tie
 
-read-record-requires : tie.Need-read-record-requires
-read-record-requires c κs = search needs
+check-record-requires : tie.Need-check-record-requires
+check-record-requires c κs = search needs
 
-enum-known-read : tie.Need-enum-known-read
-enum-known-read c = search needs
+enum-known-next : tie.Need-enum-known-next
+enum-known-next c = search needs
 
-enum-told : tie.Need-enum-told
-enum-told c = search needs
+add-start : tie.Need-add-start
+add-start c = let m = map-checked _ _ _ _ (sym (c .before .before .before .check-record .ensures) ∙ c .before .next .given .1) in omega arith
 
-fault-requires : tie.Need-fault-requires
-fault-requires c κs = search needs
+sub-t9 : tie.Need-sub-t9
+sub-t9 c = let m = map-checked _ _ _ _ (sym (c .before .before .before .check-record .ensures) ∙ c .before .next .given .1) in omega arith
+
+enum-known-f : tie.Need-enum-known-f
+enum-known-f c = search needs
 
 returns : tie.Need-returns
-unfolding mapAt mapOf faultOf Lies
-returns c = (simp (c .fault .ensures, ← c .before .before .before .read-record .ensures, c .before .enum-told .given .1), tt)
-
-enum-known-r : tie.Need-enum-known-r
-enum-known-r c = search needs
+unfolding Lies
+returns c = let m = map-checked _ _ _ _ (sym (c .before .before .before .check-record .ensures) ∙ c .before .next .given .1) in (sym (m .map), omega arith)
 
 returns-2 : tie.Need-returns-2
-unfolding mapAt Lies
-returns-2 c = (rw (← c .before .before .before .before .read-record .ensures, c .before .before .read .given .1) (sym (not-map _ _ _ (c .match2 .keys2))), tt)
-
-returns-3 : tie.Need-returns-3
 unfolding Lies
-returns-3 c = let e = map-read _ _ _ _ _ _ _ (c .before .before .before .before .before .before .read-record .ensures) (c .before .before .before .before .read .given .1) (c .before .r .given .1) in
-    let m = is-map _ _ _ _ _ e in
-    (sym e, omega arith)
+returns-2 c = (sym (map-refused _ _ _ (sym (c .before .before .before .check-record .ensures) ∙ c .before .f .given .1)), tt)
 
 pub map-at-spec : {M : Type 1} → statement M
 map-at-spec =
     tie.close
     (tie.spec
-    read-record-requires
-    enum-known-read
-    enum-told
-    fault-requires
+    check-record-requires
+    enum-known-next
+    add-start
+    sub-t9
+    enum-known-f
     returns
-    enum-known-r
-    returns-2
-    returns-3)
+    returns-2)

@@ -1,10 +1,12 @@
--- `taken` walks over the earlier maps. The invariant: those that are left decide it.
-use mathlib.Core.Path.{_≡_, refl, sym, ap, _∙_}
-use native.Mathlib.Omega.{arith}
-use native.Mathlib.Nat.{add-sub-cancel-left}
+-- `taken` walks over the earlier maps by their lengths. The invariant: those that are left decide it.
 use borrow.Author.Needs.{needs}
+use native.Mathlib.Nat.{add-sub-cancel-left}
+use lib.ListN.{length}
+use native.Mathlib.Omega.{arith}
+use mathlib.Core.Path.{_≡_, refl, sym, ap, _∙_}
 use Rattle.unitfile.specs.Inner.{takenFrom}
-use Rattle.unitfile.proofs.MapLaws.{lies-at, taken-step, taken-stop}
+use Rattle.record.proofs.Frames.{ends-inside}
+use Rattle.unitfile.proofs.MapLaws.{taken-step, taken-stop}
 use Rattle.unitfile.proofs.names.taken.Statement.{statement}
 use Rattle.unitfile.proofs.names.taken.Tie as tie
 
@@ -17,20 +19,20 @@ abbrev μ-loop : tie.MeasureT-loop
 loop-holds : tie.Need-loop-holds Inv-loop μ-loop
 loop-holds c = refl
 
-map-at-requires : tie.Need-map-at-requires Inv-loop μ-loop
-map-at-requires c κs = search needs
+get-u16-requires : tie.Need-get-u16-requires Inv-loop μ-loop
+get-u16-requires c κs = search needs
 
-enum-known-start : tie.Need-enum-known-start Inv-loop μ-loop
-enum-known-start c = search needs
+cast-len : tie.Need-cast-len Inv-loop μ-loop
+cast-len c = search needs
 
-enum-told : tie.Need-enum-told Inv-loop μ-loop
-enum-told c = search needs
+whole-requires : tie.Need-whole-requires Inv-loop μ-loop
+whole-requires c κs = search needs
 
-returns : tie.Need-returns Inv-loop μ-loop
-returns c = sym (taken-stop _ _ _ _ _ (sym (c .before .before .map-at .ensures .0) ∙ c .enum-told .given .1)) ∙ c .before .before .before .before .loop .inv
+add-start : tie.Need-add-start Inv-loop μ-loop
+add-start c = let h = ends-inside (length (c .before .before .before .before .before .before .before .args .s .now)) (c .before .before .before .before .loop .at) (c .before .before .get-u16 .result) (sym (c .before .whole .ensures) ∙ c .if1 .taken) in omega arith
 
 add-end : tie.Need-add-end Inv-loop μ-loop
-add-end c = let h = lies-at _ _ _ _ _ (c .before .start .given .1) (c .before .before .before .map-at .ensures .1) in omega arith
+add-end c = let h = ends-inside (length (c .before .before .before .before .before .before .before .args .s .now)) (c .before .before .before .before .loop .at) (c .before .before .get-u16 .result) (sym (c .before .whole .ensures) ∙ c .if1 .taken) in omega arith
 
 sub-same : tie.Need-sub-same Inv-loop μ-loop
 sub-same c = search needs
@@ -39,15 +41,13 @@ part-same-start : tie.Need-part-same-start Inv-loop μ-loop
 part-same-start c = search needs
 
 part-same-end : tie.Need-part-same-end Inv-loop μ-loop
-part-same-end c = let h = lies-at _ _ _ _ _ (c .before .start .given .1) (c .before .before .before .map-at .ensures .1) in omega arith
+part-same-end c = let h = ends-inside (length (c .before .before .before .before .before .before .before .args .s .now)) (c .before .before .before .before .loop .at) (c .before .before .get-u16 .result) (sym (c .before .whole .ensures) ∙ c .if1 .taken) in omega arith
 
 same-requires : tie.Need-same-requires Inv-loop μ-loop
 same-requires c κs = search needs
 
-returns-2 : tie.Need-returns-2 Inv-loop μ-loop
-returns-2 c = let h = simp add-sub-cancel-left at (sym (c .before .same .ensures) ∙ c .if1 .taken) in
-    let e = sym (c .before .before .before .before .before .before .map-at .ensures .0) ∙ c .before .before .before .before .start .given .1 in
-    sym (sym (c .before .before .before .before .before .before .before .before .loop .inv) ∙ taken-step _ _ _ _ _ _ _ (c .before .before .before .before .before .before .before .loop-test .taken) e ∙ rw h refl)
+returns : tie.Need-returns Inv-loop μ-loop
+returns c = let h = simp add-sub-cancel-left at (sym (c .before .same .ensures) ∙ c .if2 .taken) in sym (sym (c .before .before .before .before .before .before .before .loop .inv) ∙ taken-step _ _ _ _ _ (c .before .before .before .before .before .before .loop-test .taken) (c .before .before .before .before .before .get-u16 .ensures) (sym (c .before .before .before .before .whole .ensures) ∙ c .before .before .before .if1 .taken) ∙ rw h refl)
 
 sub-left : tie.Need-sub-left Inv-loop μ-loop
 sub-left c = search needs
@@ -56,9 +56,10 @@ loop-less : tie.Need-loop-less Inv-loop μ-loop
 loop-less c = omega arith
 
 loop-again : tie.Need-loop-again Inv-loop μ-loop
-loop-again c = let h = simp add-sub-cancel-left at (sym (c .before .same .ensures) ∙ c .if1 .left) in
-    let e = sym (c .before .before .before .before .before .before .map-at .ensures .0) ∙ c .before .before .before .before .start .given .1 in
-    sym (taken-step _ _ _ _ _ _ _ (c .before .before .before .before .before .before .before .loop-test .taken) e ∙ rw h refl) ∙ c .before .before .before .before .before .before .before .before .loop .inv
+loop-again c = let h = simp add-sub-cancel-left at (sym (c .before .same .ensures) ∙ c .if2 .left) in sym (taken-step _ _ _ _ _ (c .before .before .before .before .before .before .loop-test .taken) (c .before .before .before .before .before .get-u16 .ensures) (sym (c .before .before .before .before .whole .ensures) ∙ c .before .before .before .if1 .taken) ∙ rw h refl) ∙ c .before .before .before .before .before .before .before .loop .inv
+
+returns-2 : tie.Need-returns-2 Inv-loop μ-loop
+returns-2 c = sym (taken-stop _ _ _ _ _ (c .before .before .get-u16 .ensures) (sym (c .before .whole .ensures) ∙ c .if1 .left)) ∙ c .before .before .before .before .loop .inv
 
 returns-3 : tie.Need-returns-3 Inv-loop μ-loop
 unfolding takenFrom
@@ -71,17 +72,18 @@ taken-spec =
     Inv-loop
     μ-loop
     loop-holds
-    map-at-requires
-    enum-known-start
-    enum-told
-    returns
+    get-u16-requires
+    cast-len
+    whole-requires
+    add-start
     add-end
     sub-same
     part-same-start
     part-same-end
     same-requires
-    returns-2
+    returns
     sub-left
     loop-less
     loop-again
+    returns-2
     returns-3)

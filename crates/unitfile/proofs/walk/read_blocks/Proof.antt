@@ -8,6 +8,7 @@ use Rattle.unitfile.specs.Unit.{firstBlock, foundWith}
 use Rattle.unitfile.specs.Records.{recordsFrom}
 use Rattle.unitfile.proofs.Whole.{found-cons}
 use Rattle.unitfile.proofs.Run.{later, on-go, on-end, on-refused}
+use Rattle.unitfile.proofs.Skips.{steps-on, steps-end, steps-refused}
 use Rattle.unitfile.proofs.walk.read_blocks.Statement.{statement}
 use Rattle.unitfile.proofs.walk.read_blocks.Tie as tie
 
@@ -20,17 +21,17 @@ abbrev μ-loop : tie.MeasureT-loop
 loop-holds : tie.Need-loop-holds Inv-loop μ-loop
 loop-holds c = refl
 
-next-record-requires : tie.Need-next-record-requires Inv-loop μ-loop
-next-record-requires c κs = search needs
+skip-record-requires : tie.Need-skip-record-requires Inv-loop μ-loop
+skip-record-requires c κs = search needs
 
 enum-known-next : tie.Need-enum-known-next Inv-loop μ-loop
 enum-known-next c = search needs
 
 loop-less : tie.Need-loop-less Inv-loop μ-loop
-loop-less c = let o = later _ _ (c .before .before .before .before .loop .c) _ _ (sym (c .before .before .before .next-record .ensures) ∙ c .before .next .given .1) in omega arith
+loop-less c = let o = later _ _ (c .before .before .before .before .loop .c) _ _ (steps-on _ _ (sym (c .before .before .before .skip-record .ensures) ∙ c .before .next .given .1) .step) in omega arith
 
 loop-again : tie.Need-loop-again Inv-loop μ-loop
-loop-again c = sym (ap (foundWith _) (on-go _ _ (c .before .before .before .before .loop .c) _ _ (sym (c .before .before .before .next-record .ensures) ∙ c .before .next .given .1)) ∙ found-cons _ _ _)
+loop-again c = sym (ap (foundWith _) (on-go _ _ (c .before .before .before .before .loop .c) _ _ (steps-on _ _ (sym (c .before .before .before .skip-record .ensures) ∙ c .before .next .given .1) .step)) ∙ found-cons _ _ _)
     ∙ c .before .before .before .before .loop .inv
 
 enum-told : tie.Need-enum-told Inv-loop μ-loop
@@ -38,14 +39,14 @@ enum-told c = search needs
 
 returns : tie.Need-returns Inv-loop μ-loop
 unfolding firstBlock foundWith
-returns c = sym (sym (c .before .before .before .loop .inv) ∙ ap (foundWith _) (on-end _ _ (c .before .before .before .loop .c) (sym (c .before .before .next-record .ensures) ∙ c .enum-told .given .1)))
+returns c = sym (sym (c .before .before .before .loop .inv) ∙ ap (foundWith _) (on-end _ _ (c .before .before .before .loop .c) (steps-end _ (sym (c .before .before .skip-record .ensures) ∙ c .enum-told .given .1))))
 
 enum-known-f : tie.Need-enum-known-f Inv-loop μ-loop
 enum-known-f c = search needs
 
 returns-2 : tie.Need-returns-2 Inv-loop μ-loop
 unfolding firstBlock foundWith
-returns-2 c = sym (sym (c .before .before .before .before .loop .inv) ∙ ap (foundWith _) (on-refused _ _ (c .before .before .before .before .loop .c) _ (sym (c .before .before .before .next-record .ensures) ∙ c .before .f .given .1)))
+returns-2 c = sym (sym (c .before .before .before .before .loop .inv) ∙ ap (foundWith _) (on-refused _ _ (c .before .before .before .before .loop .c) _ (steps-refused _ _ (sym (c .before .before .before .skip-record .ensures) ∙ c .before .f .given .1))))
 
 pub read-blocks-spec : {M : Type 1} → statement M
 read-blocks-spec =
@@ -54,7 +55,7 @@ read-blocks-spec =
     Inv-loop
     μ-loop
     loop-holds
-    next-record-requires
+    skip-record-requires
     enum-known-next
     loop-less
     loop-again

@@ -1,0 +1,52 @@
+-- `put_instruction` lets the lowering put the code, and puts the relocation.
+use borrow.Author.Needs.{needs}
+use Rattle.layout.proofs.Tidy.{tidy-opcode}
+use Rattle.tracepoint.specs.Seen.{instructionBy, ringAfter}
+use Rattle.tracepoint.proofs.Put.{told-room, puts-told}
+use Rattle.tracepoint.proofs.write.put_instruction.Statement.{statement}
+use Rattle.tracepoint.proofs.write.put_instruction.Tie as tie
+
+is-condition-requires : tie.Need-is-condition-requires
+is-condition-requires c κs = search needs
+
+cast-lower-instruction : tie.Need-cast-lower-instruction
+cast-lower-instruction c = search needs
+
+mul-lower-instruction : tie.Need-mul-lower-instruction
+mul-lower-instruction c = search needs
+
+lower-instruction-requires : tie.Need-lower-instruction-requires
+lower-instruction-requires c κs = search needs
+
+put-relocation-requires : tie.Need-put-relocation-requires
+unfolding instructionBy
+put-relocation-requires c κs =
+    told-room 0 0 _ 0 (tidy-opcode _ _ _ _ _ _) (c .before .before .before .lower-instruction .ensures .0) (rw (← c .before .before .before .before .before .before .before .is-condition .ensures) at (c .before .before .before .before .before .before .before .before .before .before .before .before .pre .1))
+
+scratch-after-requires : tie.Need-scratch-after-requires
+scratch-after-requires c κs = search needs
+
+same-length : tie.Need-same-length
+same-length c = search needs
+
+same-length-2 : tie.Need-same-length-2
+same-length-2 c = search needs
+
+returns : tie.Need-returns
+unfolding instructionBy ringAfter
+returns c =
+    (λ a b. rw (← c .before .before .before .before .before .before .before .before .before .before .before .is-condition .ensures) (puts-told a b _ 0 (tidy-opcode _ _ _ _ _ _) (c .before .before .before .before .before .before .before .lower-instruction .ensures .0) (rw (← c .before .before .before .before .before .before .before .before .before .before .before .is-condition .ensures) at (c .before .before .before .before .before .before .before .before .before .before .before .before .before .before .before .before .pre .1)) (c .before .before .before .before .before .before .before .lower-instruction .ensures .1) (c .before .before .before .put-relocation .ensures)), c .scratch-after .ensures)
+
+pub put-instruction-spec : {M : Type 1} → statement M
+put-instruction-spec =
+    tie.close
+    (tie.spec
+    is-condition-requires
+    cast-lower-instruction
+    mul-lower-instruction
+    lower-instruction-requires
+    put-relocation-requires
+    scratch-after-requires
+    same-length
+    same-length-2
+    returns)
