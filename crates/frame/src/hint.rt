@@ -5,7 +5,7 @@ ghost use mathlib.Core.Path.{_≡_};
 ghost use Rattle.frame.specs.Hint.{indexFrom, indexBy, frameBy, hintsOf};
 
 // The first index of v, or the number of variables for none.
-pub(crate) fn find(variables: &[u32], v: u32) -> usize
+fn find(variables: &[u32], v: u32) -> usize
     ensures { λ r. ⌜ r ≡ indexFrom 0 (now (variables .entry)) v ⌝ }
 {
     let mut i = 0;

@@ -3,3 +3,4 @@ pub mod Forms
 pub mod Widths
 pub mod Pieces
 pub mod RoundTrip
+pub mod Words

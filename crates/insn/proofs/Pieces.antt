@@ -1,8 +1,8 @@
--- An instruction's 8 bytes, read from a part of the code and written piece by piece.
+-- An instruction's 8 bytes, read from a part of the code and written.
 use mathlib.Core.Path.{_≡_, refl, sym, ap, _∙_}
 use mathlib.Core.Bool.{Bool, true, false}
 use mathlib.Core.List.{List, _++_, append-nil}
-use Prim.Native.Nat.{ℕ, _+_, _-_, _*_, _/_, _%_, _<_, _≤_}
+use Prim.Native.Nat.{ℕ, _+_, _-_, _/_, _%_, _<_, _≤_}
 use native.Mathlib.Nat.{add-zero, add-assoc}
 use native.Mathlib.Omega.{arith}
 use borrow.Author.Tests.{leb-true, leb-false}
@@ -10,11 +10,11 @@ use lib.Dec.{leb}
 use lib.IntN.{ℤ, pos}
 use lib.ListN.{length, getD, take, drop, length-drop, drop-of-length-le, List·getD-eq-default}
 use lib.Seq.{take-all, getD-drop}
-use mir.Syntax.{Width, w8, w16, w32}
+use mir.Syntax.{Width, w16, w32}
 use mir.Val.{toZ}
 use Rattle.wire.specs.Le.{octets, byteAt, bytesOf as lowest, unsignedAt, signedAt, unsignedBytes, signedBytes, store}
 use Rattle.wire.proofs.Le.{le-same, unsigned-in, unsigned-out}
-use Rattle.wire.proofs.Store.{store-run, store-parts, store-out}
+use Rattle.wire.proofs.Store.{store-parts, store-out}
 use Rattle.insn.specs.Layout.{bytesOf, insnAt}
 use Rattle.insn.specs.declared.Insn.{Insn}
 
@@ -62,22 +62,8 @@ insn-past b at h =
 
 -- ---- writing
 
--- the opcode, the registers, the offset and imm, stored one after the other
-module _ (b : List ℕ) (at : ℕ) (i : Insn) where
-  pub stored-insn : {b₁ b₂ b₃ b₄ : List ℕ} → at + 8 ≤ length b → i .code < 256
-      → b₁ ≡ store b at (unsignedBytes w8 (i .code)) → b₂ ≡ store b₁ (at + 1) (unsignedBytes w8 (i .dst % 16 + 16 * (i .src % 16)))
-      → b₃ ≡ store b₂ (at + 2) (signedBytes w16 (i .off)) → b₄ ≡ store b₃ (at + 4) (signedBytes w32 (i .imm)) → b₄ ≡ store b at (bytesOf i)
-  unfolding bytesOf signedBytes unsignedBytes lowest
-  stored-insn h l e₁ e₂ e₃ e₄ =
-      let c = unsignedBytes w8 (i .code) in
-      let r = unsignedBytes w8 (i .dst % 16 + 16 * (i .src % 16)) in
-      let o = signedBytes w16 (i .off) in
-      let code : i .code % 256 ≡ i .code = omega arith in
-      let registers : (i .dst % 16 + 16 * (i .src % 16)) % 256 ≡ i .dst % 16 + 16 * (i .src % 16) = omega arith in
-      cc (store-run b at c r (omega arith), store-run b at (c ++ r) o (omega arith), store-run b at (c ++ r ++ o) (signedBytes w32 (i .imm)) (omega arith))
-
-  pub not-stored : length b < at + 8 → b ≡ store b at (bytesOf i)
-  not-stored h = sym (store-out b at (bytesOf i) (omega (arith, bytes-length i)))
+pub not-stored : (b : List ℕ) (at : ℕ) (i : Insn) → length b < at + 8 → b ≡ store b at (bytesOf i)
+not-stored b at i h = sym (store-out b at (bytesOf i) (omega (arith, bytes-length i)))
 
 -- 8 bytes are all replaced
 pub stored-whole : (b : List ℕ) (i : Insn) → length b ≡ 8 → store b 0 (bytesOf i) ≡ bytesOf i

@@ -12,6 +12,7 @@ use Rattle.wire.proofs.Le.{Bytes, signed-of-bytes, bytes-of-signed}
 use Rattle.insn.specs.Layout.{bytesOf, insnAt, decoded}
 use Rattle.insn.specs.declared.Insn.{Insn}
 use Rattle.insn.specs.declared.Decoded.the-variants as D
+use Rattle.insn.proofs.Pieces.{bytes-length}
 
 -- registers 0 to 15, an offset of 16 bits and an imm of 32
 pub record Fields (i : Insn) : Type 0 where
@@ -26,14 +27,18 @@ nibbles a b h l =
     let y : b % 16 ≡ b = omega arith in
     rw (x, y) (omega arith, omega arith)
 
-pub decode-encode : (i : Insn) → Fields i → decoded (bytesOf i) ≡ D.Is i
-unfolding decoded bytesOf insnAt signedBytes unsignedBytes lowest
-decode-encode i f =
+pub insn-of-bytes : (i : Insn) → Fields i → insnAt (bytesOf i) 0 ≡ i
+unfolding bytesOf insnAt signedBytes unsignedBytes lowest
+insn-of-bytes i f =
     let r = i .dst % 16 + 16 * (i .src % 16) in
     let n = nibbles (i .dst) (i .src) (f .dst) (f .src) in
     let o = signed-of-bytes w16 (i .code ∷ r ∷ []) (signedBytes w32 (i .imm)) (i .off) (f .off) in
     let m = signed-of-bytes w32 (i .code ∷ r ∷ signedBytes w16 (i .off)) [] (i .imm) (f .imm) in
-    λ j. D.Is (record { code = i .code; dst = n .0 j; src = n .1 j; off = o j; imm = m j })
+    λ j. record { code = i .code; dst = n .0 j; src = n .1 j; off = o j; imm = m j }
+
+pub decode-encode : (i : Insn) → Fields i → decoded (bytesOf i) ≡ D.Is i
+unfolding decoded
+decode-encode i f = rw (bytes-length i) (ap D.Is (insn-of-bytes i f))
 
 pub encode-decode : (b : List ℕ) → length b ≡ 8 → Bytes b → bytesOf (insnAt b 0) ≡ b
 unfolding bytesOf insnAt

@@ -4,9 +4,9 @@ use Prim.Native.Nat.{ℕ, _+_, _*_, _/_, _%_}
 use mathlib.Core.List.{List, _∷_, _++_}
 use lib.Dec.{eqb}
 use lib.ListN.{length}
-use mir.Syntax.{w16, w32}
+use mir.Syntax.{w16, w32, w64}
 use Rattle.wire.specs.Pick.{pick}
-use Rattle.wire.specs.Le.{byteAt, signedAt, signedBytes}
+use Rattle.wire.specs.Le.{byteAt, le, signedAt, unsignedBytes, signedBytes}
 use Rattle.insn.specs.declared.Insn.{Insn}
 use Rattle.insn.specs.declared.Decoded.{Decoded}
 use Rattle.insn.specs.declared.Decoded.the-variants as D
@@ -26,6 +26,13 @@ insnAt b at = record {
   off = signedAt w16 b (at + 2);
   imm = signedAt w32 b (at + 4);
 }
+
+-- the 8 bytes as one number, and the instruction of a number
+unfoldable pub wordOf : Insn → ℕ
+wordOf i = le 8 (bytesOf i) 0
+
+unfoldable pub insnOf : ℕ → Insn
+insnOf w = insnAt (unsignedBytes w64 w) 0
 
 -- 8 bytes are an instruction, and any other number of them is none
 unfoldable pub decoded : List ℕ → Decoded

@@ -5,7 +5,7 @@ use ir::BinaryOp;
 ghost use mathlib.Core.Path.{_≡_};
 ghost use Prim.Native.Nat.{_<_};
 ghost use Rattle.wire.specs.Le.{store};
-ghost use Rattle.insn.specs.Layout.{bytesOf, insnAt, decoded, encodedAnswer, encodedBytes};
+ghost use Rattle.insn.specs.Layout.{bytesOf, insnAt, wordOf, decoded, encodedAnswer, encodedBytes};
 ghost use Rattle.insn.specs.Rfc.{ALU64, LDX, STX, K, X, operationOf, aluByte};
 ghost use Rattle.insn.specs.Form.{memCode};
 
@@ -83,20 +83,22 @@ pub fn insn_at(b: &[u8], at: usize) -> Insn
     }
 }
 
+// The instruction's 8 bytes as one number.
+pub fn word(i: Insn) -> u64
+    ensures { λ r. ⌜ r ≡ wordOf i ⌝ }
+{
+    let registers = i.dst % 16 + 16 * (i.src % 16);
+    let low = i.code as u64 + 256 * (registers as u64);
+    let off = wire::bits16(i.off) as u64;
+    let imm = wire::bits32(i.imm) as u64;
+    low + 65536 * off + 4294967296 * imm
+}
+
 // The instruction's 8 bytes written from a byte of the code on; nothing where they do not lie whole in it.
 pub fn put_insn(b: &mut [u8], at: usize, i: Insn)
     ensures { λ _. ⌜ now (b .exit) ≡ store (now (b .entry)) at (bytesOf i) ⌝ }
 {
-    if b.len() < 8 {
-        return;
-    }
-    if b.len() - 8 < at {
-        return;
-    }
-    wire::put_u8(b, at, i.code);
-    wire::put_u8(b, at + 1, i.dst % 16 + 16 * (i.src % 16));
-    wire::put_i16(b, at + 2, i.off);
-    wire::put_i32(b, at + 4, i.imm);
+    wire::put_u64(b, at, word(i));
 }
 
 pub enum Decoded {

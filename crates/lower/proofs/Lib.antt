@@ -2,4 +2,5 @@ pub mod Steps
 pub mod Range
 pub mod Compose
 pub mod Counts
+pub mod Codes
 pub mod Pieces

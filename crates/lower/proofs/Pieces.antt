@@ -8,33 +8,63 @@ use native.Mathlib.Omega.{arith}
 use borrow.Author.Tests.{eqb-true, ne-eqb, eq-eqb}
 use lib.Dec.{eqb}
 use lib.IntN.{ℤ, pos}
-use Rattle.wire.specs.Pick.{either}
-use Rattle.ir.specs.Few.{listOfFew}
+use Rattle.wire.specs.Pick.{pick, either}
 use Rattle.ir.specs.declared.BinaryOp.{BinaryOp}
 use Rattle.ir.specs.declared.Operand.{Operand}
 use Rattle.ir.specs.declared.Operand.the-variants.{Var, Immediate}
-use Rattle.ir.specs.declared.few.Few.{Few}
 use Rattle.insn.specs.Rfc.{ALU64, K, X, operationOf, aluByte, sizeField}
 use Rattle.insn.specs.Form.{opcodeOf}
 use Rattle.insn.specs.declared.Insn.{Insn}
 use Rattle.insn.specs.declared.form.Size.the-variants.{Dw}
-use Rattle.insn.specs.declared.form.Form.the-variants.{Stx}
+use Rattle.insn.specs.declared.form.Form.the-variants.{Ldx, Stx}
 use Rattle.frame.specs.Cell.{Frame, frameOf}
 use Rattle.frame.specs.Hint.{frameBy}
+use Rattle.frame.specs.declared.Cell.{Cell}
+use Rattle.frame.specs.declared.Cell.the-variants.{At, Missing}
 use Rattle.lower.specs.Op.{Lowered, becomes, refused, plain, insn, _▸_}
-use Rattle.lower.specs.Operand.{fits32, constant, move, add, call, load, addr, keep}
-use Rattle.lower.specs.Instruction.{operate, nullCheck, helperCall, onThree}
-use Rattle.lower.specs.Step.{one, withConstant, addrPut, addrTake, nullTest, nullZero, nullRest}
+use Rattle.lower.specs.Operand.{fits32, constant, move, add, call, onCell, load, addr, keep}
+use Rattle.lower.specs.Instruction.{operate, nullCheck, helperCall, onNone, onThree}
+use Rattle.lower.specs.Step.{Small, one, withConstant, addrPut, addrTake, nullTest, nullZero, nullRest}
 use Rattle.lower.specs.declared.Reason.{Reason}
 use Rattle.lower.specs.declared.Reason.the-variants as Re
 use Rattle.lower.proofs.Compose.{assoc, nothing-first}
-use Rattle.lower.proofs.Counts.{few-none, few-some}
 
 -- ---- constants
 
 pub is-constant : (r : ℕ) (z : ℤ) → withConstant 0xb7 r z ≡ constant r z
 unfolding withConstant constant one insn opcodeOf
 is-constant r z = refl
+
+-- ---- registers
+
+small-one : (code dst src : ℕ) (off imm : ℤ) → dst < 16 → src < 16 → Small (one code dst src off imm)
+unfolding one
+small-one code dst src off imm h l =
+    record { dst = λ i e. (let d : i .dst ≡ dst = cc in omega arith); src = λ i e. (let s : i .src ≡ src = cc in omega arith) }
+
+small-refused : (q : Reason) → Small (refused q)
+small-refused q = record { dst = λ i e. absurd (never e); src = λ i e. absurd (never e) }
+  where
+    never : {i : Insn} → becomes (plain i ∷ []) ≡ refused q → ⊥
+    never e = let z : _≡_ {A = ℕ} 0 1 = cc in omega arith
+
+pub small-constant : (code r : ℕ) (z : ℤ) → r < 16 → Small (withConstant code r z)
+unfolding withConstant
+small-constant code r z h = go (fits32 z)
+  where
+    go : (t : Bool) → Small (pick t (one code r 0 (pos 0) z) (refused (Re.Immediate z)))
+    go true = small-one code r 0 (pos 0) z h (omega arith)
+    go false = small-refused (Re.Immediate z)
+
+small-cell : (v r : ℕ) (cell : Cell) → r < 16 → Small (onCell v cell (λ offset. insn (Ldx Dw) r 10 offset (pos 0)))
+unfolding onCell insn one
+small-cell v r (At offset) h = small-one (opcodeOf (Ldx Dw)) r 10 offset (pos 0) h (omega arith)
+small-cell v r Missing h = small-refused (Re.NoCell v)
+
+pub small-load : (f : Frame) (r : ℕ) (o : Operand) → r < 16 → Small (load f r o)
+unfolding load
+small-load f r (Var v) h = small-cell v r (f .cell v) h
+small-load f r (Immediate z) h = rw (← is-constant r z) (small-constant 0xb7 r z h)
 
 -- ---- addresses
 
@@ -114,25 +144,20 @@ pub three-small : (id : ℕ) → three id ≡ true → id < 128
 three-small id = either-small id (is-small id 114 (omega arith)) (is-small id 115 (omega arith))
 
 -- t and u: what `takes_none` and `takes_three` answer
-module _ (f : Frame) (result id : ℕ) (w : Few) {t : Bool} (et : t ≡ none id) where
-  pub helper-none : t ≡ true → w .count ≡ 0 → (call id ▸ keep f result) ≡ helperCall f result id (listOfFew w)
+module _ (f : Frame) (result id : ℕ) (os : List Operand) {t : Bool} (et : t ≡ none id) where
+  pub helper-none : t ≡ true → onNone os (call id ▸ keep f result) ≡ helperCall f result id os
   unfolding helperCall
-  helper-none e z = few-none w (call id ▸ keep f result) z ∙ rw (sym et ∙ e)
+  helper-none e = rw (sym et ∙ e)
 
-  pub helper-some : t ≡ true → (w .count ≡ 0 → ⊥) → refused (Re.Count (w .count)) ≡ helperCall f result id (listOfFew w)
-  unfolding helperCall
-  helper-some e z = few-some w (call id ▸ keep f result) z ∙ rw (sym et ∙ e)
-
-  pub helper-16 : t ≡ false → id ≡ 16 → refused Re.Helper16 ≡ helperCall f result id (listOfFew w)
+  pub helper-16 : t ≡ false → id ≡ 16 → refused Re.Helper16 ≡ helperCall f result id os
   unfolding helperCall
   helper-16 e h = rw (sym et ∙ e, eq-eqb id 16 h)
 
   module _ {u : Bool} (e : t ≡ false) (h : id ≡ 16 → ⊥) (eu : u ≡ three id) where
-    pub helper-three : u ≡ true
-        → onThree (listOfFew w) (λ a b c. load f 1 a ▸ load f 2 b ▸ load f 3 c ▸ call id ▸ keep f result) ≡ helperCall f result id (listOfFew w)
+    pub helper-three : u ≡ true → onThree os (λ a b c. load f 1 a ▸ load f 2 b ▸ load f 3 c ▸ call id ▸ keep f result) ≡ helperCall f result id os
     unfolding helperCall
     helper-three k = rw (sym et ∙ e, ne-eqb id 16 h, sym eu ∙ k)
 
-    pub helper-other : u ≡ false → refused (Re.Helper id) ≡ helperCall f result id (listOfFew w)
+    pub helper-other : u ≡ false → refused (Re.Helper id) ≡ helperCall f result id os
     unfolding helperCall
     helper-other k = rw (sym et ∙ e, ne-eqb id 16 h, sym eu ∙ k)

@@ -4,8 +4,8 @@ use mathlib.Core.List.{List, [], _∷_, _++_}
 use Prim.Native.Nat.{ℕ, suc, _+_, _*_}
 use native.Mathlib.Omega.{arith}
 use lib.ListN.{length, length-append}
-use Rattle.wire.specs.Le.{store}
-use Rattle.insn.specs.Layout.{bytesOf}
+use Rattle.wire.specs.Le.{le, bytesOf as lowest, unsignedAt, signedAt, unsignedBytes, store}
+use Rattle.insn.specs.Layout.{bytesOf, insnAt, insnOf}
 use Rattle.insn.specs.declared.Insn.{Insn}
 use Rattle.lower.specs.Op.{Op, plain, map, ja, jne, Lowered, becomes, refused, slotsOf, _▸_}
 use Rattle.lower.specs.Put.{wideInsn, zeroInsn, insnsIn, putAt, putLowered}
@@ -17,10 +17,10 @@ use Rattle.lower.specs.declared.Outcome.the-variants.{Fine, Refused}
 use Rattle.lower.specs.declared.MapUse.{MapUse}
 use Rattle.lower.specs.declared.MapUse.the-variants as M
 use Rattle.lower.specs.declared.Emitted.{Emitted}
-use Rattle.lower.specs.declared.operand.Step.{Step}
-use Rattle.lower.specs.declared.operand.Step.the-variants as S
-use Rattle.lower.specs.declared.operand.Piece.{Piece}
-use Rattle.lower.specs.declared.operand.Piece.the-variants as P
+use Rattle.lower.specs.declared.piece.Step.{Step}
+use Rattle.lower.specs.declared.piece.Step.the-variants as S
+use Rattle.lower.specs.declared.piece.Piece.{Piece}
+use Rattle.lower.specs.declared.piece.Piece.the-variants as P
 
 -- ---- one after the other
 
@@ -161,29 +161,33 @@ module _ (b₀ : List ℕ) (at s : ℕ) {p : Piece} where
   unfolding opsOf insnsIn slotsOf putAt
   put-nothing e = rw e (record { code = refl; next = omega arith; most = omega arith })
 
-  pub put-one : {b₁ : List ℕ} {i : Insn} → p ≡ P.One i → b₁ ≡ store b₀ (at + 8 * s) (bytesOf i) → PutPiece b₀ at s p b₁ (s + 1)
+  pub put-one : {b₁ : List ℕ} {u : ℕ} → p ≡ P.One u → b₁ ≡ store b₀ (at + 8 * s) (bytesOf (insnOf u)) → PutPiece b₀ at s p b₁ (s + 1)
   unfolding opsOf insnsIn slotsOf putAt
   put-one e f = rw e (record { code = f; next = omega arith; most = omega arith })
 
-  pub put-two : {b₁ b₂ : List ℕ} {i j : Insn} → p ≡ P.Two i j → b₁ ≡ store b₀ (at + 8 * s) (bytesOf i) → b₂ ≡ store b₁ (at + 8 * (s + 1)) (bytesOf j)
+  pub put-two : {b₁ b₂ : List ℕ} {u v : ℕ} → p ≡ P.Two u v → b₁ ≡ store b₀ (at + 8 * s) (bytesOf (insnOf u)) → b₂ ≡ store b₁ (at + 8 * (s + 1)) (bytesOf (insnOf v))
       → PutPiece b₀ at s p b₂ (s + 2)
   unfolding opsOf insnsIn slotsOf putAt
-  put-two {i = i} {j} e f g = rw e (record { code = more b₀ at s (s + 1) i (j ∷ []) refl f g; next = omega arith; most = omega arith })
+  put-two {u = u} {v} e f g = rw e (record { code = more b₀ at s (s + 1) (insnOf u) (insnOf v ∷ []) refl f g; next = omega arith; most = omega arith })
 
 -- ---- the load of a map's address
+
+zero-word : insnOf 0 ≡ zeroInsn
+unfolding insnOf insnAt signedAt unsignedAt unsignedBytes lowest le zeroInsn
+zero-word = refl
 
 module _ (b₀ : List ℕ) (at : ℕ) {m : MapUse} where
   pub put-no-map : m ≡ M.Nothing → Holds b₀ at (mapOps m) b₀ 0
   unfolding mapOps insnsIn slotsOf putAt
   put-no-map e = rw e (record { code = refl; filled = refl; even = refl })
 
-  pub put-a-map : {n : ℕ} {b₁ b₂ : List ℕ} → m ≡ M.Map n → b₁ ≡ store b₀ (at + 8 * 0) (bytesOf wideInsn) → b₂ ≡ store b₁ (at + 8 * 1) (bytesOf zeroInsn)
+  pub put-a-map : {n : ℕ} {i : Insn} {b₁ b₂ : List ℕ} → m ≡ M.Map n → i ≡ wideInsn → b₁ ≡ store b₀ (at + 8 * 0) (bytesOf i) → b₂ ≡ store b₁ (at + 8 * 1) (bytesOf (insnOf 0))
       → Holds b₀ at (mapOps m) b₂ 2
   unfolding mapOps insnsIn slotsOf putAt
-  put-a-map e f g =
+  put-a-map e h f g =
       rw e
       (record {
-        code = more b₀ at 0 1 wideInsn (zeroInsn ∷ []) refl f g ∙ ap (λ (k : ℕ). putAt b₀ k (wideInsn ∷ zeroInsn ∷ [])) (omega arith);
+        code = more b₀ at 0 1 wideInsn (zeroInsn ∷ []) refl (rw h at f) (rw zero-word at g) ∙ ap (λ (k : ℕ). putAt b₀ k (wideInsn ∷ zeroInsn ∷ [])) (omega arith);
         filled = refl;
         even = refl;
       })

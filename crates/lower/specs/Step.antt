@@ -1,5 +1,5 @@
 -- One instruction that may be refused, pieces of several, and what putting them leaves.
-use Prim.Native.Nat.{ℕ, _+_, _*_, _≤_}
+use Prim.Native.Nat.{ℕ, _+_, _*_, _<_, _≤_}
 use mathlib.Core.Path.{_≡_}
 use mathlib.Core.Bool.{Bool, true, false}
 use mathlib.Core.List.{List, [], _∷_}
@@ -8,6 +8,7 @@ use lib.ListN.{length}
 use Rattle.wire.specs.Pick.{pick}
 use Rattle.ir.specs.declared.Operand.{Operand}
 use Rattle.ir.specs.declared.Operand.the-variants.{Var, Immediate}
+use Rattle.insn.specs.Layout.{insnOf}
 use Rattle.insn.specs.declared.Insn.{Insn}
 use Rattle.insn.specs.declared.form.Size.the-variants.{Dw}
 use Rattle.insn.specs.declared.form.Form.the-variants.{Stx, Ja, JeqImm, Exit}
@@ -22,10 +23,10 @@ use Rattle.lower.specs.declared.Outcome.the-variants.{Fine, Refused}
 use Rattle.lower.specs.declared.MapUse.{MapUse}
 use Rattle.lower.specs.declared.MapUse.the-variants as M
 use Rattle.lower.specs.declared.Emitted.{Emitted}
-use Rattle.lower.specs.declared.operand.Step.{Step}
-use Rattle.lower.specs.declared.operand.Step.the-variants as S
-use Rattle.lower.specs.declared.operand.Piece.{Piece}
-use Rattle.lower.specs.declared.operand.Piece.the-variants as P
+use Rattle.lower.specs.declared.piece.Step.{Step}
+use Rattle.lower.specs.declared.piece.Step.the-variants as S
+use Rattle.lower.specs.declared.piece.Piece.{Piece}
+use Rattle.lower.specs.declared.piece.Piece.the-variants as P
 
 -- ---- steps and pieces
 
@@ -39,6 +40,11 @@ unfoldable pub stepOf : Step → Lowered
 stepOf (S.Is i) = becomes (plain i ∷ [])
 stepOf (S.Refused r) = refused r
 
+-- where x is one instruction, its registers have four bits each
+pub record Small (x : Lowered) : Type 0 where
+  pub dst : (i : Insn) → becomes (plain i ∷ []) ≡ x → i .dst < 16
+  pub src : (i : Insn) → becomes (plain i ∷ []) ≡ x → i .src < 16
+
 -- what a piece becomes: its refusal, its operations
 unfoldable pub outcomeOf : Piece → Outcome
 outcomeOf (P.Refused r) = Refused r
@@ -49,8 +55,8 @@ outcomeOf (P.Two a b) = Fine
 unfoldable pub opsOf : Piece → List Op
 opsOf (P.Refused r) = []
 opsOf P.Nothing = []
-opsOf (P.One a) = plain a ∷ []
-opsOf (P.Two a b) = plain a ∷ plain b ∷ []
+opsOf (P.One a) = plain (insnOf a) ∷ []
+opsOf (P.Two a b) = plain (insnOf a) ∷ plain (insnOf b) ∷ []
 
 unfoldable pub pieceOf : Piece → Lowered
 pieceOf p = all (outcomeOf p) (opsOf p)

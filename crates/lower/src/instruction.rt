@@ -1,23 +1,23 @@
-// What each opcode becomes, in 01's order: the count of operands, then piece by piece.
+// What each opcode becomes, in 01's order: the count of operands, then piece by piece. The operands stand in a payload from byte 16 on.
 use crate::Emitted;
 use crate::MapUse;
 use crate::Reason;
 use crate::list;
-use crate::operand::call_update;
-use crate::operand::constant;
-use crate::operand::context_address;
-use crate::operand::keep;
-use crate::operand::load;
-use crate::operand::load_context;
-use crate::operand::next;
-use crate::operand::null_rest;
-use crate::operand::null_test;
-use crate::operand::null_zero;
-use crate::operand::operate;
-use crate::operand::plain;
-use crate::operand::put_scratch;
-use crate::operand::store;
-use crate::operand::take_addr;
+use crate::piece::call_update;
+use crate::piece::constant;
+use crate::piece::context_address;
+use crate::piece::keep;
+use crate::piece::load;
+use crate::piece::load_context;
+use crate::piece::next;
+use crate::piece::null_rest;
+use crate::piece::null_test;
+use crate::piece::null_zero;
+use crate::piece::operate;
+use crate::piece::plain;
+use crate::piece::put_scratch;
+use crate::piece::store;
+use crate::piece::take_addr;
 use insn::BPF_CALL;
 use insn::BPF_MOV64_IMM;
 use insn::R0;
@@ -25,16 +25,16 @@ use insn::R1;
 use insn::R2;
 use insn::R3;
 use ir::BinaryOp;
-use ir::few::Few;
+use operand::operand_in;
 ghost use mathlib.Core.Bool.{false};
 ghost use mathlib.Core.List.{[]};
 ghost use mathlib.Core.Path.{_≡_};
 ghost use lib.Dec.{eqb};
 ghost use Rattle.wire.specs.Pick.{either};
-ghost use Rattle.ir.specs.Few.{listOfFew};
+ghost use Rattle.operand.specs.Operand.{operandsIn};
 ghost use Rattle.ir.specs.declared.Opcode.the-variants as C;
 ghost use Rattle.frame.specs.Hint.{frameBy};
-ghost use Rattle.lower.specs.Instruction.{opcode, fromContext, helperCall};
+ghost use Rattle.lower.specs.Instruction.{opcode, fromContext, helperCall, afterFirst, afterTwo};
 ghost use Rattle.lower.specs.Step.{Puts};
 
 // ---- alu
@@ -46,16 +46,16 @@ pub fn binary(
     hints: &[u8; 256],
     result: u32,
     op: BinaryOp,
-    few: Few,
+    n: u8,
+    payload: &[u8],
 ) -> Emitted
-    ensures { λ r. ⌜ Puts (now (code .entry)) at (opcode (frameBy (now (variables .entry)) (now (hints .entry))) 0 false result (C.Binary op) (listOfFew few)) (now (code .exit)) r ⌝ }
+    ensures { λ r. ⌜ Puts (now (code .entry)) at (opcode (frameBy (now (variables .entry)) (now (hints .entry))) 0 false result (C.Binary op) (operandsIn (now (payload .entry)) 16 n)) (now (code .exit)) r ⌝ }
 {
-    let a = few.a;
-    let b = few.b;
-    let n = few.count;
     if n != 2 {
         return list::refused(Reason::Count(n));
     }
+    let a = operand_in(payload, 16);
+    let b = operand_in(payload, 25);
     list::three(
         code,
         at,
@@ -74,14 +74,15 @@ pub fn load_key(
     variables: &[u32],
     hints: &[u8; 256],
     result: u32,
-    few: Few,
+    n: u8,
+    payload: &[u8],
 ) -> Emitted
-    ensures { λ r. ⌜ Puts (now (code .entry)) at (opcode (frameBy (now (variables .entry)) (now (hints .entry))) 0 false result C.LoadKey (listOfFew few)) (now (code .exit)) r ⌝ }
+    ensures { λ r. ⌜ Puts (now (code .entry)) at (opcode (frameBy (now (variables .entry)) (now (hints .entry))) 0 false result C.LoadKey (operandsIn (now (payload .entry)) 16 n)) (now (code .exit)) r ⌝ }
 {
-    let a = few.a;
-    if few.count == 0 {
+    if n == 0 {
         return list::refused(Reason::Count(0));
     }
+    let a = operand_in(payload, 16);
     list::three(
         code,
         at,
@@ -98,16 +99,16 @@ pub fn store_value(
     variables: &[u32],
     hints: &[u8; 256],
     size: u8,
-    few: Few,
+    n: u8,
+    payload: &[u8],
 ) -> Emitted
-    ensures { λ r. ⌜ Puts (now (code .entry)) at (opcode (frameBy (now (variables .entry)) (now (hints .entry))) 0 false 0 (C.Store size) (listOfFew few)) (now (code .exit)) r ⌝ }
+    ensures { λ r. ⌜ Puts (now (code .entry)) at (opcode (frameBy (now (variables .entry)) (now (hints .entry))) 0 false 0 (C.Store size) (operandsIn (now (payload .entry)) 16 n)) (now (code .exit)) r ⌝ }
 {
-    let a = few.a;
-    let b = few.b;
-    let n = few.count;
     if n != 2 {
         return list::refused(Reason::Count(n));
     }
+    let a = operand_in(payload, 16);
+    let b = operand_in(payload, 25);
     list::three(
         code,
         at,
@@ -146,14 +147,15 @@ pub fn copy_context(
     result: u32,
     offset: i32,
     size: u32,
-    few: Few,
+    n: u8,
+    payload: &[u8],
 ) -> Emitted
-    ensures { λ r. ⌜ Puts (now (code .entry)) at (opcode (frameBy (now (variables .entry)) (now (hints .entry))) 0 false result (C.CopyCtxToMem offset size) (listOfFew few)) (now (code .exit)) r ⌝ }
+    ensures { λ r. ⌜ Puts (now (code .entry)) at (opcode (frameBy (now (variables .entry)) (now (hints .entry))) 0 false result (C.CopyCtxToMem offset size) (operandsIn (now (payload .entry)) 16 n)) (now (code .exit)) r ⌝ }
 {
-    let a = few.a;
-    if few.count == 0 {
+    if n == 0 {
         return list::refused(Reason::Count(0));
     }
+    let a = operand_in(payload, 16);
     list::five(
         code,
         at,
@@ -198,14 +200,11 @@ pub fn helper_call(
     hints: &[u8; 256],
     result: u32,
     id: u32,
-    few: Few,
+    n: u8,
+    payload: &[u8],
 ) -> Emitted
-    ensures { λ r. ⌜ Puts (now (code .entry)) at (helperCall (frameBy (now (variables .entry)) (now (hints .entry))) result id (listOfFew few)) (now (code .exit)) r ⌝ }
+    ensures { λ r. ⌜ Puts (now (code .entry)) at (helperCall (frameBy (now (variables .entry)) (now (hints .entry))) result id (operandsIn (now (payload .entry)) 16 n)) (now (code .exit)) r ⌝ }
 {
-    let a = few.a;
-    let b = few.b;
-    let c = few.c;
-    let n = few.count;
     if takes_none(id) {
         if n != 0 {
             return list::refused(Reason::Count(n));
@@ -225,6 +224,9 @@ pub fn helper_call(
         if n != 3 {
             return list::refused(Reason::Count(n));
         }
+        let a = operand_in(payload, 16);
+        let b = operand_in(payload, 25);
+        let c = operand_in(payload, 34);
         return list::five(
             code,
             at,
@@ -249,14 +251,15 @@ pub fn call_map(
     j: u8,
     result: u32,
     map: u32,
-    few: Few,
+    n: u8,
+    payload: &[u8],
 ) -> Emitted
-    ensures { λ r. ⌜ Puts (now (code .entry)) at (opcode (frameBy (now (variables .entry)) (now (hints .entry))) j false result (C.CallMap map) (listOfFew few)) (now (code .exit)) r ⌝ }
+    ensures { λ r. ⌜ Puts (now (code .entry)) at (opcode (frameBy (now (variables .entry)) (now (hints .entry))) j false result (C.CallMap map) (operandsIn (now (payload .entry)) 16 n)) (now (code .exit)) r ⌝ }
 {
-    let a = few.a;
-    if few.count == 0 {
+    if n == 0 {
         return list::refused(Reason::Count(0));
     }
+    let a = operand_in(payload, 16);
     list::four(
         code,
         at,
@@ -276,16 +279,16 @@ pub fn update_map(
     j: u8,
     result: u32,
     map: u32,
-    few: Few,
+    n: u8,
+    payload: &[u8],
 ) -> Emitted
-    ensures { λ r. ⌜ Puts (now (code .entry)) at (opcode (frameBy (now (variables .entry)) (now (hints .entry))) j false result (C.UpdateMap map) (listOfFew few)) (now (code .exit)) r ⌝ }
+    ensures { λ r. ⌜ Puts (now (code .entry)) at (opcode (frameBy (now (variables .entry)) (now (hints .entry))) j false result (C.UpdateMap map) (operandsIn (now (payload .entry)) 16 n)) (now (code .exit)) r ⌝ }
 {
-    let a = few.a;
-    let b = few.b;
-    let n = few.count;
     if n != 2 {
         return list::refused(Reason::Count(n));
     }
+    let a = operand_in(payload, 16);
+    let b = operand_in(payload, 25);
     let k = next(j, a);
     list::six(
         code,
@@ -328,14 +331,15 @@ pub fn submit(
     variables: &[u32],
     hints: &[u8; 256],
     result: u32,
-    few: Few,
+    n: u8,
+    payload: &[u8],
 ) -> Emitted
-    ensures { λ r. ⌜ Puts (now (code .entry)) at (opcode (frameBy (now (variables .entry)) (now (hints .entry))) 0 false result (C.RingBufSubmit 0) (listOfFew few)) (now (code .exit)) r ⌝ }
+    ensures { λ r. ⌜ Puts (now (code .entry)) at (opcode (frameBy (now (variables .entry)) (now (hints .entry))) 0 false result (C.RingBufSubmit 0) (operandsIn (now (payload .entry)) 16 n)) (now (code .exit)) r ⌝ }
 {
-    let a = few.a;
-    if few.count == 0 {
+    if n == 0 {
         return list::refused(Reason::Count(0));
     }
+    let a = operand_in(payload, 16);
     list::five(
         code,
         at,
@@ -357,14 +361,15 @@ pub fn null_check(
     hints: &[u8; 256],
     condition: bool,
     result: u32,
-    few: Few,
+    n: u8,
+    payload: &[u8],
 ) -> Emitted
-    ensures { λ r. ⌜ Puts (now (code .entry)) at (opcode (frameBy (now (variables .entry)) (now (hints .entry))) 0 condition result C.NullCheck (listOfFew few)) (now (code .exit)) r ⌝ }
+    ensures { λ r. ⌜ Puts (now (code .entry)) at (opcode (frameBy (now (variables .entry)) (now (hints .entry))) 0 condition result C.NullCheck (operandsIn (now (payload .entry)) 16 n)) (now (code .exit)) r ⌝ }
 {
-    let a = few.a;
-    if few.count == 0 {
+    if n == 0 {
         return list::refused(Reason::Count(0));
     }
+    let a = operand_in(payload, 16);
     list::five(
         code,
         at,
@@ -375,4 +380,26 @@ pub fn null_check(
         null_rest(condition),
         keep(variables, hints, result),
     )
+}
+
+// ---- the scratch ring
+
+// The ring's position after CallMap, and after UpdateMap.
+pub fn after_first(j: u8, n: u8, payload: &[u8]) -> u8
+    ensures { λ r. ⌜ r ≡ afterFirst j (operandsIn (now (payload .entry)) 16 n) ⌝ }
+{
+    if n == 0 {
+        return j;
+    }
+    next(j, operand_in(payload, 16))
+}
+
+pub fn after_two(j: u8, n: u8, payload: &[u8]) -> u8
+    ensures { λ r. ⌜ r ≡ afterTwo j (operandsIn (now (payload .entry)) 16 n) ⌝ }
+{
+    let k = after_first(j, n, payload);
+    if n < 2 {
+        return k;
+    }
+    next(k, operand_in(payload, 25))
 }

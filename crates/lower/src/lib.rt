@@ -1,20 +1,16 @@
 // What an instruction or a terminator becomes.
 mod instruction;
 mod list;
-mod operand;
+mod piece;
 
 use insn::Insn;
-use ir::Opcode;
 use ir::Terminator;
-use ir::few::Few;
-use operand::Step;
+use piece::Step;
 ghost use mathlib.Core.Path.{_≡_};
-ghost use Rattle.ir.specs.Few.{listOfFew};
 ghost use Rattle.frame.specs.Hint.{frameBy};
 ghost use Rattle.lower.specs.Put.{putLowered};
 ghost use Rattle.lower.specs.Held.{held, endingOps};
-ghost use Rattle.lower.specs.Instruction as I;
-ghost use Rattle.lower.specs.Instruction.{scratchBy};
+ghost use Rattle.lower.specs.Payload.{instructionIn, scratchIn};
 ghost use Rattle.lower.specs.Step.{Puts};
 ghost use Rattle.lower.specs.Terminator.{terminator};
 
@@ -56,6 +52,7 @@ pub enum Ending {
     Refused(Reason),
 }
 
+// By the opcode's code at byte 4; the operand count stands at byte 6.
 fn emit(
     code: &mut [u8],
     at: usize,
@@ -63,51 +60,60 @@ fn emit(
     hints: &[u8; 256],
     j: u8,
     condition: bool,
-    result: u32,
-    opcode: Opcode,
-    few: Few,
+    payload: &[u8],
 ) -> Emitted
-    ensures { λ r. ⌜ Puts (now (code .entry)) at (I.opcode (frameBy (now (variables .entry)) (now (hints .entry))) j condition result opcode (listOfFew few)) (now (code .exit)) r ⌝ }
+    ensures { λ r. ⌜ Puts (now (code .entry)) at (instructionIn (frameBy (now (variables .entry)) (now (hints .entry))) j condition (now (payload .entry))) (now (code .exit)) r ⌝ }
 {
-    match opcode {
-        Opcode::HelperCall { id } => {
-            instruction::helper_call(code, at, variables, hints, result, id, few)
+    let result = wire::get_u32(payload, 0);
+    let n = wire::get_u8(payload, 6);
+    match wire::get_u8(payload, 4) {
+        1 => {
+            let id = wire::get_u32(payload, 12);
+            instruction::helper_call(code, at, variables, hints, result, id, n, payload)
         }
-        Opcode::LoadKey => instruction::load_key(code, at, variables, hints, result, few),
-        Opcode::Store { size } => {
-            instruction::store_value(code, at, variables, hints, size, few)
+        3 => {
+            let size = wire::get_u8(payload, 5);
+            instruction::store_value(code, at, variables, hints, size, n, payload)
         }
-        Opcode::LoadCtx { offset, size } => {
+        4 => {
+            let offset = wire::get_i32(payload, 8);
+            let size = wire::get_u8(payload, 5);
             instruction::from_context(code, at, variables, hints, result, offset, size)
         }
-        Opcode::LoadPacket { offset, size } => {
+        5 => {
+            let offset = wire::get_i32(payload, 8);
+            let size = wire::get_u8(payload, 5);
             instruction::from_context(code, at, variables, hints, result, offset, size)
         }
-        Opcode::CopyCtxToMem { offset, size } => {
-            instruction::copy_context(code, at, variables, hints, result, offset, size, few)
+        6 => {
+            let offset = wire::get_i32(payload, 8);
+            let size = wire::get_u32(payload, 12);
+            instruction::copy_context(code, at, variables, hints, result, offset, size, n, payload)
         }
-        Opcode::NullCheck => {
-            instruction::null_check(code, at, variables, hints, condition, result, few)
+        7 => instruction::null_check(code, at, variables, hints, condition, result, n, payload),
+        8 => {
+            let op = opcode::operation(wire::get_u8(payload, 5));
+            instruction::binary(code, at, variables, hints, result, op, n, payload)
         }
-        Opcode::Binary { op } => {
-            instruction::binary(code, at, variables, hints, result, op, few)
+        9 => {
+            let map = wire::get_u32(payload, 12);
+            instruction::call_map(code, at, variables, hints, j, result, map, n, payload)
         }
-        Opcode::CallMap { map } => {
-            instruction::call_map(code, at, variables, hints, j, result, map, few)
+        10 => {
+            let map = wire::get_u32(payload, 12);
+            instruction::update_map(code, at, variables, hints, j, result, map, n, payload)
         }
-        Opcode::UpdateMap { map } => {
-            instruction::update_map(code, at, variables, hints, j, result, map, few)
-        }
-        Opcode::RingBufReserve { map, size } => {
+        11 => {
+            let map = opcode::map_of(wire::get_i32(payload, 8));
+            let size = wire::get_u32(payload, 12);
             instruction::reserve(code, at, variables, hints, result, map, size)
         }
-        Opcode::RingBufSubmit { map: _ } => {
-            instruction::submit(code, at, variables, hints, result, few)
-        }
+        12 => instruction::submit(code, at, variables, hints, result, n, payload),
+        _ => instruction::load_key(code, at, variables, hints, result, n, payload),
     }
 }
 
-// An instruction, in the frame of these variables, from scratch j of the ring on; condition: its result is a branch condition of any block.
+// The instruction in a payload, in the frame of these variables, from scratch j of the ring on; condition: its result is a branch condition of any block.
 // Its code is put from the byte `at` on.
 pub fn lower_instruction(
     code: &mut [u8],
@@ -116,59 +122,22 @@ pub fn lower_instruction(
     hints: &[u8; 256],
     j: u8,
     condition: bool,
-    result: u32,
-    opcode: Opcode,
-    few: Few,
+    payload: &[u8],
 ) -> Emitted
-    ensures { λ r. ⌜ r ≡ held (I.opcode (frameBy (now (variables .entry)) (now (hints .entry))) j condition result opcode (listOfFew few)) ⌝ }
-    ensures { λ _. ⌜ now (code .exit) ≡ putLowered (now (code .entry)) at (I.opcode (frameBy (now (variables .entry)) (now (hints .entry))) j condition result opcode (listOfFew few)) ⌝ }
+    ensures { λ r. ⌜ r ≡ held (instructionIn (frameBy (now (variables .entry)) (now (hints .entry))) j condition (now (payload .entry))) ⌝ }
+    ensures { λ _. ⌜ now (code .exit) ≡ putLowered (now (code .entry)) at (instructionIn (frameBy (now (variables .entry)) (now (hints .entry))) j condition (now (payload .entry))) ⌝ }
 {
-    emit(
-        code,
-        at,
-        variables,
-        hints,
-        j,
-        condition,
-        result,
-        opcode,
-        few,
-    )
+    emit(code, at, variables, hints, j, condition, payload)
 }
 
-// The ring's position after an instruction.
-pub fn scratch_after(j: u8, opcode: Opcode, few: Few) -> u8
-    ensures { λ r. ⌜ r ≡ scratchBy j opcode (listOfFew few) ⌝ }
+// The ring's position after the instruction in a payload.
+pub fn scratch_after(j: u8, payload: &[u8]) -> u8
+    ensures { λ r. ⌜ r ≡ scratchIn j (now (payload .entry)) ⌝ }
 {
-    let n = few.count;
-    let a = few.a;
-    let b = few.b;
-    match opcode {
-        Opcode::CallMap { map: _ } => {
-            if n == 0 {
-                return j;
-            }
-            operand::next(j, a)
-        }
-        Opcode::UpdateMap { map: _ } => {
-            if n == 0 {
-                return j;
-            }
-            if n == 1 {
-                return operand::next(j, a);
-            }
-            operand::next(operand::next(j, a), b)
-        }
-        Opcode::HelperCall { id: _ } => j,
-        Opcode::LoadKey => j,
-        Opcode::Store { size: _ } => j,
-        Opcode::LoadCtx { offset: _, size: _ } => j,
-        Opcode::LoadPacket { offset: _, size: _ } => j,
-        Opcode::CopyCtxToMem { offset: _, size: _ } => j,
-        Opcode::NullCheck => j,
-        Opcode::Binary { op: _ } => j,
-        Opcode::RingBufReserve { map: _, size: _ } => j,
-        Opcode::RingBufSubmit { map: _ } => j,
+    match wire::get_u8(payload, 4) {
+        9 => instruction::after_first(j, wire::get_u8(payload, 6), payload),
+        10 => instruction::after_two(j, wire::get_u8(payload, 6), payload),
+        _ => j,
     }
 }
 
@@ -176,7 +145,7 @@ pub fn lower_terminator(variables: &[u32], hints: &[u8; 256], t: Terminator) -> 
     ensures { λ r. ⌜ endingOps r ≡ terminator (frameBy (now (variables .entry)) (now (hints .entry))) t ⌝ }
 {
     match t {
-        Terminator::Return(o) => match operand::load_step(variables, hints, insn::R0, o) {
+        Terminator::Return(o) => match piece::load_step(variables, hints, insn::R0, o) {
             Step::Is(first) => Ending::Return(first),
             Step::Refused(r) => Ending::Refused(r),
         },
@@ -185,7 +154,7 @@ pub fn lower_terminator(variables: &[u32], hints: &[u8; 256], t: Terminator) -> 
             condition,
             true_block,
             false_block,
-        } => match operand::load_step(variables, hints, insn::R0, condition) {
+        } => match piece::load_step(variables, hints, insn::R0, condition) {
             Step::Is(first) => Ending::Branch(first, true_block, false_block),
             Step::Refused(r) => Ending::Refused(r),
         },

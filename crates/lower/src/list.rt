@@ -3,13 +3,13 @@ use crate::Emitted;
 use crate::MapUse;
 use crate::Outcome;
 use crate::Reason;
-use crate::operand::Piece;
-use crate::operand::first;
-use insn::Insn;
+use crate::piece::Piece;
+use crate::piece::first;
+use crate::piece::word;
 ghost use Prim.Native.Nat.{_+_, _*_, _≤_};
 ghost use mathlib.Core.Path.{_≡_};
 ghost use Rattle.wire.specs.Le.{store};
-ghost use Rattle.insn.specs.Layout.{bytesOf};
+ghost use Rattle.insn.specs.Layout.{bytesOf, insnOf};
 ghost use Rattle.lower.specs.Op.{becomes, refused, _▸_};
 ghost use Rattle.lower.specs.Held.{held};
 ghost use Rattle.lower.specs.Step.{pieceOf, mapOps, Holds, PutPiece, Puts};
@@ -27,13 +27,13 @@ pub fn refused(r: Reason) -> Emitted
 // ---- putting
 
 // An instruction at a slot, counted from a byte of the code; no slot lies in the code where that byte lies past its end.
-fn put_slot(code: &mut [u8], at: usize, slot: u32, i: Insn)
-    ensures { λ _. ⌜ now (code .exit) ≡ store (now (code .entry)) (at + 8 * slot) (bytesOf i) ⌝ }
+fn put_slot(code: &mut [u8], at: usize, slot: u32, word: u64)
+    ensures { λ _. ⌜ now (code .exit) ≡ store (now (code .entry)) (at + 8 * slot) (bytesOf (insnOf word)) ⌝ }
 {
     if code.len() < at {
         return;
     }
-    insn::put_insn(code, at + 8 * (slot as usize), i);
+    wire::put_u64(code, at + 8 * (slot as usize), word);
 }
 
 const MAP_SLOTS: u32 = 2;
@@ -46,22 +46,9 @@ fn put_map(code: &mut [u8], at: usize, map: MapUse) -> u32
     match map {
         MapUse::Nothing => 0,
         MapUse::Map(_) => {
-            let wide = Insn {
-                code: insn::BPF_LD_DW_IMM,
-                dst: insn::R1,
-                src: 1,
-                off: 0,
-                imm: 0,
-            };
-            let zero = Insn {
-                code: 0,
-                dst: 0,
-                src: 0,
-                off: 0,
-                imm: 0,
-            };
+            let wide = word(insn::BPF_LD_DW_IMM, insn::R1, 1, 0, 0);
             put_slot(code, at, 0, wide);
-            put_slot(code, at, 1, zero);
+            put_slot(code, at, 1, 0);
             MAP_SLOTS
         }
     }

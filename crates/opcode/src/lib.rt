@@ -20,7 +20,7 @@ pub enum ReadOpcode {
 }
 
 // The operation that Binary's small says.
-fn operation(small: u8) -> BinaryOp
+pub fn operation(small: u8) -> BinaryOp
     ensures { λ r. ⌜ r ≡ getD operations small Add ⌝ }
 {
     match small {
@@ -106,7 +106,7 @@ pub fn opcode_ok(f: Fields, maps: u16) -> bool
 }
 
 // The map number that a signed number is; a negative one is none.
-fn map_of(z: i32) -> u32
+pub fn map_of(z: i32) -> u32
     ensures { λ r. ⌜ r ≡ mapOf z ⌝ }
 {
     if z < 0 {

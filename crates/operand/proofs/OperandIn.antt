@@ -133,7 +133,7 @@ pub operands-read : (b : List ℕ) (i k : ℕ) (l : Operands) → k ≤ 8 → op
 unfolding listOf
 operands-read b i k l h e = reads b l k Zero i (omega (arith, h)) e
 
-operands-count : (b : List ℕ) (i k : ℕ) → length (operandsIn b i k) ≡ k
+pub operands-count : (b : List ℕ) (i k : ℕ) → length (operandsIn b i k) ≡ k
 unfolding operandsIn
 operands-count b i zero = refl
 operands-count b i (suc k) = ap suc (operands-count b (i + 9) k)

@@ -4,9 +4,9 @@ use ir::few::Few;
 use ir::operands;
 use ir::operands::Head;
 use ir::operands::Operands;
+use wire::lies;
 ghost use mathlib.Core.Path.{_≡_};
 ghost use Prim.Native.Nat.{_+_, _*_, _≤_};
-ghost use lib.Dec.{leb};
 ghost use lib.ListN.{length};
 ghost use Rattle.wire.specs.Le.{store};
 ghost use Rattle.wire.specs.Pick.{pick};
@@ -14,16 +14,6 @@ ghost use Rattle.ir.specs.Few.{missing};
 ghost use Rattle.ir.specs.Operands.{listOf};
 ghost use Rattle.ir.specs.declared.operands.Operands.the-variants.{Zero};
 ghost use Rattle.operand.specs.Operand.{operandAt, operandsAt, isOperand, areOperands, operandIn, fewAt, operandBytes, operandsBytes};
-
-// Whether n bytes from i on lie in len bytes.
-fn lies(i: usize, n: usize, len: usize) -> bool
-    ensures { λ r. ⌜ r ≡ leb (i + n) len ⌝ }
-{
-    if len < n {
-        return false;
-    }
-    i <= len - n
-}
 
 // ---- read
 

@@ -10,7 +10,8 @@ use Rattle.ir.specs.Operands.{listOf}
 use Rattle.unitfile.specs.Records.{Placed}
 use Rattle.unitfile.specs.Unit.{PlacedInstruction, BasicBlock, UnitIr, parsed, firstBlock, parse}
 use Rattle.unitfile.proofs.Blocks.{instructionRecord, terminatorRecord, onto, flat}
-use Rattle.unitfile.proofs.Sizes.{terminatorSize, payloadSize, sizes, sizes-all}
+use Rattle.record.specs.Terminator.{terminatorSize}
+use Rattle.unitfile.proofs.Sizes.{payloadSize, sizes, sizes-all}
 use Rattle.unitfile.proofs.Theorems.{Decided, refusal, whole-unit, decided}
 use Rattle.unitfile.proofs.Units.{unit-of}
 use Rattle.survey.specs.Surveyed.{blocksOf}

@@ -22,7 +22,7 @@ use Rattle.insn.specs.Form.{memCode}
 use Rattle.insn.specs.declared.MemCode.{MemCode}
 use Rattle.insn.specs.declared.MemCode.the-variants as M
 use Rattle.insn.specs.declared.form.Form.{Form}
-use Rattle.unitfile.proofs.Sizes.{terminatorSize}
+use Rattle.record.specs.Terminator.{terminatorSize}
 use Rattle.frame.specs.Cell.{Frame}
 use Rattle.frame.specs.declared.Cell.{Cell}
 use Rattle.frame.specs.declared.Cell.the-variants.{At, Missing}

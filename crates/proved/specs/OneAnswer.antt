@@ -8,13 +8,16 @@ use Rattle.text.proofs as text
 use Rattle.opcode.proofs as opcode
 use Rattle.operand.proofs as operand
 use Rattle.record.proofs as reader
+use Rattle.recordcheck.proofs as recordcheck
 use Rattle.recordwriter.proofs as recordwriter
 use Rattle.unitfile.proofs as unitfile
+use Rattle.peek.proofs as peek
 use Rattle.frame.proofs as frame
 use Rattle.sort.proofs as sort
 use Rattle.flow.proofs as flow
 use Rattle.survey.proofs as survey
 use Rattle.lower.proofs as lower
+use Rattle.size.proofs as size
 use Rattle.jumps.proofs as jumps
 use Rattle.tracepoint.proofs as tracepoint
 use Rattle.shape.proofs as shape
@@ -37,6 +40,9 @@ a and b = (a, b)
 
 -- every function that a library crate lets others call; Reads.Post is its contract, as its source has it
 pub record OneAnswer : Type 0 where
+  pub wire-lies : DecidesAnswer wire.lies.Reads.Post
+  pub wire-bits16 : DecidesAnswer wire.bits16.Reads.Post
+  pub wire-bits32 : DecidesAnswer wire.bits32.Reads.Post
   pub wire-get-u8 : DecidesAnswer wire.get_u8.Reads.Post
   pub wire-get-u16 : DecidesAnswer wire.get_u16.Reads.Post
   pub wire-get-u32 : DecidesAnswer wire.get_u32.Reads.Post
@@ -57,6 +63,7 @@ pub record OneAnswer : Type 0 where
   pub ir-first : DecidesAnswer ir.operands.first.Reads.Post
   pub ir-rest : DecidesAnswer ir.operands.rest.Reads.Post
   pub insn-to-le-bytes : DecidesAnswer insn.Insn.to_le_bytes.Reads.Post
+  pub insn-word : DecidesAnswer insn.word.Reads.Post
   pub insn-insn-at : DecidesAnswer insn.insn_at.Reads.Post
   pub insn-put-insn : Decides insn.put_insn.Reads.Post (λ κ r (b, _). now b)
   pub insn-decode : DecidesAnswer insn.decode.Reads.Post
@@ -70,10 +77,12 @@ pub record OneAnswer : Type 0 where
   pub text-put-slot : Decides text.put_slot.Reads.Post (λ κ r (out, _). r and now out)
   pub text-put-reloc : Decides text.put_reloc.Reads.Post (λ κ r (out, _). r and now out)
   pub text-put-refused : Decides text.put_refused.Reads.Post (λ κ r (out, _). r and now out)
+  pub opcode-operation : DecidesAnswer opcode.operation.Reads.Post
   pub opcode-small-of : DecidesAnswer opcode.small_of.Reads.Post
   pub opcode-opcode-of : DecidesAnswer opcode.opcode_of.Reads.Post
   pub opcode-opcode-ok : DecidesAnswer opcode.opcode_ok.Reads.Post
   pub opcode-opcode-in : DecidesAnswer opcode.opcode_in.Reads.Post
+  pub opcode-map-of : DecidesAnswer opcode.map_of.Reads.Post
   pub opcode-map-ok : DecidesAnswer opcode.map_ok.Reads.Post
   pub operand-operand-at : DecidesAnswer operand.operand_at.Reads.Post
   pub operand-operands-at : DecidesAnswer operand.operands_at.Reads.Post
@@ -85,18 +94,26 @@ pub record OneAnswer : Type 0 where
   pub operand-put-operands : Decides operand.put_operands.Reads.Post (λ κ r (b, _). now b)
   pub record-refusal : DecidesAnswer reader.refusal.Reads.Post
   pub record-read-record : DecidesAnswer reader.read_record.Reads.Post
-  pub record-check-record : DecidesAnswer reader.check_record.Reads.Post
   pub record-whole : DecidesAnswer reader.whole.Reads.Post
-  pub record-terminator-in : DecidesAnswer reader.terminator.terminator_in.Reads.Post
+  pub record-kind : DecidesAnswer reader.kind.Reads.Post
+  pub record-kind-due : DecidesAnswer reader.kind_due.Reads.Post
+  pub record-not-due : DecidesAnswer reader.not_due.Reads.Post
+  pub record-broken : DecidesAnswer reader.broken.Reads.Post
+  pub record-head-at : DecidesAnswer reader.payload.head_at.Reads.Post
   pub record-head-ok : DecidesAnswer reader.payload.head_ok.Reads.Post
+  pub record-sized : DecidesAnswer reader.instruction.sized.Reads.Post
+  pub record-fields-at : DecidesAnswer reader.instruction.fields_at.Reads.Post
+  pub recordcheck-check-record : DecidesAnswer recordcheck.check_record.Reads.Post
   pub recordwriter-refusal : DecidesAnswer recordwriter.refusal.Reads.Post
   pub recordwriter-write-record : Decides recordwriter.write_record.Reads.Post (λ κ r (_, (_, (_, (buffer, _)))). r and now buffer)
+  pub unitfile-after : DecidesAnswer unitfile.after.Reads.Post
   pub unitfile-next-record : DecidesAnswer unitfile.next_record.Reads.Post
-  pub unitfile-peek : DecidesAnswer unitfile.peek.peek.Reads.Post
   pub unitfile-read-unit : DecidesAnswer unitfile.read_unit.Reads.Post
   pub unitfile-map-place : DecidesAnswer unitfile.map_place.Reads.Post
   pub unitfile-map-name : Decides unitfile.map_name.Reads.Post (λ κ r s. now r)
   pub unitfile-map-named : DecidesAnswer unitfile.map_named.Reads.Post
+  pub peek-peek : DecidesAnswer peek.peek.Reads.Post
+  pub peek-terminator-in : DecidesAnswer peek.terminator.terminator_in.Reads.Post
   pub frame-scratch : DecidesAnswer frame.scratch.Reads.Post
   pub frame-index-at : DecidesAnswer frame.hint.index_at.Reads.Post
   pub frame-cell-at : DecidesAnswer frame.hint.cell_at.Reads.Post
@@ -108,6 +125,7 @@ pub record OneAnswer : Type 0 where
   pub lower-lower-instruction : Decides lower.lower_instruction.Reads.Post (λ κ r (code, _). r and now code)
   pub lower-scratch-after : DecidesAnswer lower.scratch_after.Reads.Post
   pub lower-lower-terminator : DecidesAnswer lower.lower_terminator.Reads.Post
+  pub size-size-instruction : DecidesAnswer size.size_instruction.Reads.Post
   pub jumps-distance : DecidesAnswer jumps.distance.Reads.Post
   pub jumps-check-jumps : DecidesAnswer jumps.check_jumps.Reads.Post
   pub tracepoint-refusal : DecidesAnswer tracepoint.refusal.Reads.Post

@@ -1,5 +1,5 @@
 pub mod Instructions
+pub mod Heads
 pub mod Frames
 pub mod RecordLaws
-pub mod Parts
-pub mod Checks
+pub mod OfKind

@@ -1,8 +1,10 @@
 -- An instruction's payload: u32 result, u8 opcode, u8 small, u8 operand count k (0 to 8), u8 zero, i32 offset, u32 number, k operands.
 use Prim.Native.Nat.{ℕ, _+_, _*_}
-use mathlib.Core.Bool.{Bool, true, false}
+use mathlib.Core.Bool.{Bool}
 use mathlib.Core.List.{List}
 use lib.Dec.{eqb, leb}
+use lib.IntN.{pos}
+use lib.ListN.{length}
 use mir.Syntax.{w32}
 use Rattle.wire.specs.Pick.{pick, both}
 use Rattle.wire.specs.Le.{byteAt, unsignedAt, signedAt}
@@ -17,8 +19,13 @@ use Rattle.opcode.specs.declared.ReadOpcode.the-variants as C
 use Rattle.record.specs.declared.instruction.ReadInstruction.{ReadInstruction}
 use Rattle.record.specs.declared.instruction.ReadInstruction.the-variants as I
 
+-- the four fields
 unfoldable pub fieldsAt : List ℕ → ℕ → Fields
 fieldsAt b at = record { code = byteAt b (at + 4); small = byteAt b (at + 5); offset = signedAt w32 b (at + 8); number = unsignedAt w32 b (at + 12) }
+
+-- the same; zeros where a payload does not lie in b
+unfoldable pub fieldsIn : List ℕ → ℕ → Fields
+fieldsIn b at = pick (leb (at + 16) (length b)) (fieldsAt b at) (record { code = 0; small = 0; offset = pos 0; number = 0 })
 
 unfoldable pub countAt : List ℕ → ℕ → ℕ
 countAt b at = byteAt b (at + 6)
@@ -33,11 +40,10 @@ joined result C.Broken L.Broken = I.Broken
 unfoldable pub sized : List ℕ → ℕ → ℕ → Bool
 sized b at len = both (leb 16 len) (both (leb (countAt b at) 8) (both (eqb len (16 + 9 * countAt b at)) (eqb (byteAt b (at + 7)) 0)))
 
+-- the same, and the payload lies in b
+unfoldable pub sizedIn : List ℕ → ℕ → ℕ → Bool
+sizedIn b at len = both (leb (at + len) (length b)) (sized b at len)
+
 unfoldable pub instructionAt : List ℕ → ℕ → ℕ → ℕ → ReadInstruction
 instructionAt b at len maps =
     pick (sized b at len) (joined (unsignedAt w32 b at) (opcodeOf (fieldsAt b at) maps) (operandsAt Zero b (at + 16) (countAt b at))) I.Broken
-
--- the payload is an instruction's
-unfoldable pub isInstruction : ReadInstruction → Bool
-isInstruction (I.Is i) = true
-isInstruction I.Broken = false

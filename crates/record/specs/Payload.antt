@@ -1,8 +1,9 @@
 -- What a payload of each kind says: 1 head, 2 map, 3 block, 4 instruction, 5 terminator.
 use Prim.Native.Nat.{ℕ, _+_}
-use mathlib.Core.Bool.{Bool, true, false}
+use mathlib.Core.Bool.{Bool}
 use mathlib.Core.List.{List}
 use lib.Dec.{eqb, leb}
+use lib.ListN.{length}
 use mir.Syntax.{w16, w32}
 use Rattle.wire.specs.Pick.{pick, both}
 use Rattle.wire.specs.Le.{unsignedAt}
@@ -21,6 +22,10 @@ use Rattle.record.specs.declared.payload.Payload.the-variants.{Is, Broke
 -- u16 edition, u16 maps, u32 blocks
 unfoldable pub headAt : List ℕ → ℕ → Head
 headAt b at = record { edition = unsignedAt w16 b at; maps = unsignedAt w16 b (at + 2); blocks = unsignedAt w32 b (at + 4) }
+
+-- the same; zeros where a head does not lie in b
+unfoldable pub headIn : List ℕ → ℕ → Head
+headIn b at = pick (leb (at + 8) (length b)) (headAt b at) (record { edition = 0; maps = 0; blocks = 0 })
 
 -- edition 1, 0 to 64 maps, 0 to 1,024 blocks
 unfoldable pub headOk : Head → Bool
@@ -42,11 +47,6 @@ payloadAt kind b at len maps =
     (pick (eqb kind 3) (pick (eqb len 4) (Is (R.Block (unsignedAt w32 b at))) Broken)
     (pick (eqb kind 4) (ofInstruction (instructionAt b at len maps))
     (pick (eqb kind 5) (ofTerminator (terminatorAt b at len)) Broken))))
-
--- the payload obeys the rules of its kind
-unfoldable pub isPayload : Payload → Bool
-isPayload (Is r) = true
-isPayload Broken = false
 
 -- the kind of the record that has a value
 unfoldable pub kindOf : Record → ℕ

@@ -7,9 +7,7 @@ use lib.IntN.{pos}
 use Rattle.wire.specs.Pick.{pick}
 use Rattle.wire.specs.declared.refusal.Refusal.{Refusal}
 use Rattle.record.specs.Frame.{lengthAt, kindAt, wholeAt, nextAt}
-use Rattle.record.specs.Payload.{payloadAt, kindOf}
-use Rattle.record.specs.declared.Checked.{Checked}
-use Rattle.record.specs.declared.Checked.the-variants as Ch
+use Rattle.record.specs.Payload.{payloadAt}
 use Rattle.record.specs.declared.Due.{Due}
 use Rattle.record.specs.declared.Due.the-variants as Du
 use Rattle.record.specs.declared.Fault.{Fault}
@@ -56,8 +54,3 @@ readRecord b at due maps =
     pick (wholeAt b at)
     (pick (kindDue due (kindAt b at)) (onPayload due at (nextAt b at) (payloadAt (kindAt b at) b (at + 4) (lengthAt b at) maps)) (Re.Refused (notDue due at)))
     (Re.Refused (Cut at))
-
--- the kind of the record that is due and the byte after it, or the refusal
-unfoldable pub checkedOf : Read → Checked
-checkedOf (Re.Record r next) = Ch.Next (kindOf r) next
-checkedOf (Re.Refused f) = Ch.Refused f

@@ -6,55 +6,51 @@ use operand::ReadOperands;
 ghost use mathlib.Core.Path.{_≡_};
 ghost use Prim.Native.Nat.{_+_, _≤_};
 ghost use lib.ListN.{length};
-ghost use Rattle.record.specs.Instruction.{fieldsAt, sized, instructionAt, isInstruction};
+ghost use Rattle.record.specs.Instruction.{fieldsIn, sizedIn, instructionAt};
 
 pub enum ReadInstruction {
     Is(Instruction),
     Broken,
 }
 
-// Whether the payload of len bytes at a byte is as long as its operand count asks, and has its zero.
-fn sized(s: &[u8], at: usize, len: usize) -> bool
-    requires { ⌜ at + len ≤ length (now s) ⌝ }
-    ensures { λ r. ⌜ r ≡ sized (now (s .entry)) at len ⌝ }
+// Whether the payload of len bytes at a byte lies in the bytes, is as long as its operand count asks, and has its zero.
+pub fn sized(s: &[u8], at: usize, len: usize) -> bool
+    ensures { λ r. ⌜ r ≡ sizedIn (now (s .entry)) at len ⌝ }
 {
-    if len < 16 {
-        return false;
-    }
-    let count = s[at + 6];
-    if 8 < count {
-        return false;
-    }
-    if len != 16 + 9 * (count as usize) {
-        return false;
-    }
-    s[at + 7] == 0
-}
-
-// The four fields of a payload.
-fn fields_at(s: &[u8], at: usize) -> Fields
-    requires { ⌜ at + 16 ≤ length (now s) ⌝ }
-    ensures { λ r. ⌜ r ≡ fieldsAt (now (s .entry)) at ⌝ }
-{
-    Fields {
-        code: s[at + 4],
-        small: s[at + 5],
-        offset: wire::get_i32(s, at + 8),
-        number: wire::get_u32(s, at + 12),
-    }
-}
-
-// Whether the payload of len bytes at a byte is an instruction's, in a unit of so many maps.
-pub(crate) fn instruction_ok(s: &[u8], at: usize, len: usize, maps: u16) -> bool
-    requires { ⌜ at + len ≤ length (now s) ⌝ }
-    ensures { λ r. ⌜ r ≡ isInstruction (instructionAt (now (s .entry)) at len maps) ⌝ }
-{
-    if sized(s, at, len) {
-        if opcode::opcode_ok(fields_at(s, at), maps) {
-            return operand::are_operands(s, at + 16, s[at + 6]);
+    if wire::lies(at, len, s.len()) {
+        if len < 16 {
+            return false;
         }
+        let count = s[at + 6];
+        if 8 < count {
+            return false;
+        }
+        if len != 16 + 9 * (count as usize) {
+            return false;
+        }
+        return s[at + 7] == 0;
     }
     false
+}
+
+// The four fields of a payload; zeros where it does not lie in the bytes.
+pub fn fields_at(s: &[u8], at: usize) -> Fields
+    ensures { λ r. ⌜ r ≡ fieldsIn (now (s .entry)) at ⌝ }
+{
+    if wire::lies(at, 16, s.len()) {
+        return Fields {
+            code: s[at + 4],
+            small: s[at + 5],
+            offset: wire::get_i32(s, at + 8),
+            number: wire::get_u32(s, at + 12),
+        };
+    }
+    Fields {
+        code: 0,
+        small: 0,
+        offset: 0,
+        number: 0,
+    }
 }
 
 // The payload of len bytes at a byte, in a unit of so many maps.

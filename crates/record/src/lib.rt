@@ -1,5 +1,5 @@
 // One record of the unit file, read.
-mod instruction;
+pub mod instruction;
 pub mod payload;
 pub mod terminator;
 
@@ -12,7 +12,8 @@ ghost use mathlib.Core.Path.{_≡_};
 ghost use Prim.Native.Nat.{_+_};
 ghost use lib.Dec.{leb};
 ghost use Rattle.wire.specs.Pick.{pick};
-ghost use Rattle.record.specs.Record.{readRecord, checkedOf, refusalOf, kindDue, notDue, broken};
+ghost use Rattle.record.specs.Payload.{kindOf};
+ghost use Rattle.record.specs.Record.{readRecord, refusalOf, kindDue, notDue, broken};
 
 pub struct Head {
     pub edition: u16,
@@ -97,8 +98,21 @@ pub fn whole(size: usize, at: usize, len: usize) -> bool
     len <= size - 4 - at
 }
 
+// The kind of the record that has a value.
+pub fn kind(value: Record) -> u16
+    ensures { λ r. ⌜ r ≡ kindOf value ⌝ }
+{
+    match value {
+        Record::Head(_) => 1,
+        Record::Map { start: _, len: _ } => 2,
+        Record::Block(_) => 3,
+        Record::Instruction(_) => 4,
+        Record::Terminator(_) => 5,
+    }
+}
+
 // Whether the kind is the one due.
-fn kind_due(due: Due, kind: u16) -> bool
+pub fn kind_due(due: Due, kind: u16) -> bool
     ensures { λ r. ⌜ r ≡ kindDue due kind ⌝ }
 {
     match due {
@@ -115,7 +129,7 @@ fn kind_due(due: Due, kind: u16) -> bool
 }
 
 // Where the head is due, what is no valid head is 3: by its kind, and by its payload.
-fn not_due(due: Due, at: usize) -> Fault
+pub fn not_due(due: Due, at: usize) -> Fault
     ensures { λ r. ⌜ r ≡ notDue due at ⌝ }
 {
     match due {
@@ -126,7 +140,7 @@ fn not_due(due: Due, at: usize) -> Fault
     }
 }
 
-fn broken(due: Due, at: usize) -> Fault
+pub fn broken(due: Due, at: usize) -> Fault
     ensures { λ r. ⌜ r ≡ broken due at ⌝ }
 {
     match due {
@@ -153,28 +167,4 @@ pub fn read_record(s: &[u8], at: usize, due: Due, maps: u16) -> Read
         return Read::Refused(not_due(due, at));
     }
     Read::Refused(Fault::Cut(at))
-}
-
-// A record's kind and the byte after it, or the refusal.
-pub enum Checked {
-    Next(u16, usize),
-    Refused(Fault),
-}
-
-// The same with no value made of the record.
-pub fn check_record(s: &[u8], at: usize, due: Due, maps: u16) -> Checked
-    ensures { λ r. ⌜ r ≡ checkedOf (readRecord (now (s .entry)) at due maps) ⌝ }
-{
-    let len = wire::get_u16(s, at) as usize;
-    if whole(s.len(), at, len) {
-        let kind = wire::get_u16(s, at + 2);
-        if kind_due(due, kind) {
-            if payload::payload_ok(s, kind, at + 4, len, maps) {
-                return Checked::Next(kind, at + 4 + len);
-            }
-            return Checked::Refused(broken(due, at));
-        }
-        return Checked::Refused(not_due(due, at));
-    }
-    Checked::Refused(Fault::Cut(at))
 }

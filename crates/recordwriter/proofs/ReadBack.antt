@@ -26,7 +26,7 @@ use Rattle.operand.specs.Operand.{operandAt, onOperand, operandsAt, operandByte
 use Rattle.operand.proofs.OperandBytes.{operand-length}
 use Rattle.record.specs.Instruction.{fieldsAt, countAt, sized, joined, instructionAt}
 use Rattle.record.specs.Terminator.{returning, branching, terminatorAt}
-use Rattle.record.specs.Payload.{headAt, ofInstruction, ofTerminator, payloadAt}
+use Rattle.record.specs.Payload.{headAt, ofInstruction, ofTerminator, payloadAt, kindOf}
 use Rattle.record.specs.Frame.{wholeAt, nextAt}
 use Rattle.record.specs.Record.{kindDue, onPayload, readRecord}
 use Rattle.opcode.specs.declared.Fields.{Fields}
@@ -39,7 +39,7 @@ use Rattle.operand.specs.declared.ReadOperands.the-variants as L
 use Rattle.record.specs.declared.instruction.ReadInstruction.the-variants as I
 use Rattle.record.specs.declared.terminator.ReadTerminator.the-variants as T
 use Rattle.record.specs.declared.payload.Payload.the-variants as P
-use Rattle.recordwriter.specs.Bytes.{fieldsOf, instructionBytes, terminatorBytes, payloadBytes, kindOf, recordBytes}
+use Rattle.recordwriter.specs.Bytes.{fieldsOf, instructionBytes, terminatorBytes, payloadBytes, recordBytes}
 use Rattle.recordwriter.specs.Written.{valid}
 use Rattle.opcode.specs.Opcode.{mapOk}
 use Rattle.recordwriter.specs.Typed.{TypedOperand, TypedOperands, TypedOpcode, TypedTerminator, Typed, dueOf, placed}

@@ -22,7 +22,7 @@ use Rattle.opcode.specs.Opcode.{mapOk, opcodeOf}
 use Rattle.operand.specs.Operand.{operandAt, onOperand, operandsAt, operandBytes, operandsBytes}
 use Rattle.record.specs.Instruction.{fieldsAt, countAt, sized, joined, instructionAt}
 use Rattle.record.specs.Terminator.{returning, branching, terminatorAt}
-use Rattle.record.specs.Payload.{headAt, headOk, ofInstruction, ofTerminator, payloadAt}
+use Rattle.record.specs.Payload.{headAt, headOk, ofInstruction, ofTerminator, payloadAt, kindOf}
 use Rattle.record.specs.Frame.{lengthAt, kindAt, nextAt}
 use Rattle.record.specs.Record.{readRecord}
 use Rattle.record.specs.declared.Due.{Due}
@@ -42,7 +42,7 @@ use Rattle.record.specs.declared.terminator.ReadTerminator.the-variants as T
 use Rattle.record.specs.declared.payload.Payload.{Payload}
 use Rattle.record.specs.declared.payload.Payload.the-variants as P
 use Rattle.record.proofs.RecordLaws.{record-taken}
-use Rattle.recordwriter.specs.Bytes.{fieldsOf, instructionBytes, terminatorBytes, payloadBytes, kindOf, recordBytes}
+use Rattle.recordwriter.specs.Bytes.{fieldsOf, instructionBytes, terminatorBytes, payloadBytes, recordBytes}
 use Rattle.recordwriter.specs.Written.{valid}
 use Rattle.recordwriter.proofs.Length.{part-length}
 use Rattle.recordwriter.proofs.Pieces.{instruction-pieces}

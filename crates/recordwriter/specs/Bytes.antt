@@ -12,6 +12,7 @@ use Rattle.ir.specs.declared.Opcode.the-variants as C
 use Rattle.ir.specs.declared.Instruction.{Instruction}
 use Rattle.ir.specs.declared.Terminator.{Terminator}
 use Rattle.ir.specs.declared.Terminator.the-variants.{Return, Jump, Branch}
+use Rattle.record.specs.Payload.{kindOf}
 use Rattle.record.specs.declared.Record.{Record}
 use Rattle.record.specs.declared.Record.the-variants as R
 use Rattle.opcode.specs.declared.Fields.{Fields}
@@ -55,13 +56,6 @@ payloadBytes names (R.Map start len) = take len (drop start names)
 payloadBytes names (R.Block id) = unsignedBytes w32 id
 payloadBytes names (R.Instruction i) = instructionBytes (i .result) (fieldsOf (i .opcode)) (listOf (i .operands))
 payloadBytes names (R.Terminator t) = terminatorBytes t
-
-unfoldable pub kindOf : Record → ℕ
-kindOf (R.Head h) = 1
-kindOf (R.Map start len) = 2
-kindOf (R.Block id) = 3
-kindOf (R.Instruction i) = 4
-kindOf (R.Terminator t) = 5
 
 -- a u16 payload length, a u16 kind, then the payload
 unfoldable pub recordBytes : List ℕ → Record → List ℕ

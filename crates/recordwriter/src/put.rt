@@ -14,7 +14,7 @@ ghost use Prim.Native.Nat.{_+_, _*_, _≤_};
 ghost use lib.ListN.{length, take, drop};
 ghost use Rattle.wire.specs.Le.{store};
 ghost use Rattle.ir.specs.Operands.{listOf};
-ghost use Rattle.recordwriter.specs.Bytes.{fieldsOf, instructionBytes, terminatorBytes, kindOf, payloadBytes, recordBytes};
+ghost use Rattle.recordwriter.specs.Bytes.{fieldsOf, instructionBytes, terminatorBytes, payloadBytes, recordBytes};
 ghost use Rattle.opcode.specs.Opcode.{mapOk};
 ghost use Rattle.recordwriter.specs.Written.{valid};
 
@@ -98,18 +98,6 @@ fn put_payload(b: &mut [u8], value: Record, names: &[u8])
     }
 }
 
-fn kind(value: Record) -> u16
-    ensures { λ r. ⌜ r ≡ kindOf value ⌝ }
-{
-    match value {
-        Record::Head(_) => 1,
-        Record::Map { start: _, len: _ } => 2,
-        Record::Block(_) => 3,
-        Record::Instruction(_) => 4,
-        Record::Terminator(_) => 5,
-    }
-}
-
 // The record at the buffer's front; its payload has n bytes.
 pub(crate) fn put_record(b: &mut [u8], value: Record, names: &[u8], n: u16)
     requires { ⌜ valid 65536 (now names) value ≡ true ⌝ }
@@ -118,6 +106,6 @@ pub(crate) fn put_record(b: &mut [u8], value: Record, names: &[u8], n: u16)
     ensures { λ _. ⌜ now (b .exit) ≡ store (now (b .entry)) 0 (recordBytes (now (names .entry)) value) ⌝ }
 {
     wire::put_u16(b, 0, n);
-    wire::put_u16(b, 2, kind(value));
+    wire::put_u16(b, 2, record::kind(value));
     put_payload(b, value, names);
 }

@@ -14,7 +14,7 @@ use Rattle.ir.specs.declared.Terminator.{Terminator}
 use Rattle.ir.specs.declared.Terminator.the-variants.{Return, Jump, Branch}
 use Rattle.operand.specs.Operand.{operandIn}
 use Rattle.record.specs.Instruction.{countAt}
-use Rattle.record.specs.Terminator.{terminatorIn}
+use Rattle.peek.specs.Terminator.{terminatorIn}
 use Rattle.record.specs.Payload.{kindOf}
 use Rattle.record.specs.declared.Record.{Record}
 use Rattle.record.specs.declared.Record.the-variants as R
@@ -22,7 +22,7 @@ use Rattle.unitfile.specs.Records.{nextRecord}
 use Rattle.unitfile.specs.declared.Cursor.{Cursor}
 use Rattle.unitfile.specs.declared.Step.the-variants.{Go}
 use Rattle.unitfile.proofs.Run.{goes}
-use Rattle.unitfile.proofs.Peeking.{InstructionAt, block-in, instruction-in, terminator-in}
+use Rattle.peek.proofs.Peeking.{InstructionAt, block-in, instruction-in, terminator-in}
 use Rattle.survey.specs.Occurrences.{ofOperand, ofInstruction, ofTerminator}
 use Rattle.survey.specs.Inner.{ofRecord, idAfter, atEnd, ofInstructionIn, ofTerminatorIn, ofRecordIn, idAfterIn, atEndIn}
 

@@ -11,23 +11,22 @@ use Rattle.record.specs.declared.Record.{Record}
 use Rattle.record.specs.declared.Record.the-variants as R
 use Rattle.unitfile.specs.Records.{Placed, Records, records, refused, cons, nextRecord, recordsFrom}
 use Rattle.unitfile.specs.Unit.{BasicBlock, parse, readUnit, firstBlock}
-use Rattle.unitfile.specs.Peek.{peekAt}
+use Rattle.peek.specs.Peek.{peekAt}
 use Rattle.unitfile.specs.declared.Cursor.{Cursor}
 use Rattle.unitfile.specs.declared.Found.{Found}
 use Rattle.unitfile.specs.declared.ReadUnit.the-variants as U
-use Rattle.unitfile.specs.declared.peek.Ahead.{Ahead}
+use Rattle.peek.specs.declared.Ahead.{Ahead}
 use Rattle.unitfile.specs.declared.Step.{Step}
 use Rattle.unitfile.specs.declared.Step.the-variants.{Go, End, Refused}
 use Rattle.frame.proofs.Sorted.{none}
 use Rattle.unitfile.proofs.Blocks.{flat}
 use Rattle.unitfile.proofs.Run.{on-go, on-end, on-refused}
-use Rattle.unitfile.proofs.Peeking.{peek-go, peek-end}
+use Rattle.peek.proofs.Peeking.{peek-go, peek-end}
 use Rattle.survey.specs.Occurrences.{Occurrence, occurrences}
 use Rattle.survey.specs.Collected.{collected}
 use Rattle.survey.specs.Surveyed.{ids, endings, blocksOf, counted, surveyedVariables, surveyedIds, surveyedEndings}
 use Rattle.survey.specs.Inner.{gathered, further, used, Holds, Takes, Passes, idAfter, atEnd, atEndIn, tallied}
 use Rattle.survey.specs.declared.occurrences.Tally.{Tally}
-use Rattle.survey.specs.declared.occurrences.Tally.the-variants as T
 use Rattle.survey.specs.declared.pass.Going.{Going}
 use Rattle.survey.proofs.Bytes.{Brings, brings}
 use Rattle.survey.proofs.Bounds.{blocks-flat, few-blocks}
@@ -37,19 +36,22 @@ use Rattle.survey.proofs.Tallies.{nothing, then, answer, afterwards}
 abbrev blocks : List ℕ → List BasicBlock
 blocks b = blocksOf (parse b)
 
+abbrev none-yet : Tally
+none-yet = record { count = 0; place = 0 }
+
 -- at the cursor c and in g, with the lists vs, is and es, which were vs₀, is₀ and es₀ at first
 pub record Left (b : List ℕ) (maps : ℕ) (vs₀ is₀ es₀ vs is es : List ℕ) (c : Cursor) (g : Going) : Type 0 where
   pub list : List Placed
   pub read : recordsFrom b maps c ≡ records list
   pub holds : Holds (g .tally) vs
-  pub takes : (r : Tally) (m : List ℕ) → Takes (g .tally) vs (flatOccurrences list) r m → Takes (T.Count 0) vs₀ (occurrences (blocks b)) r m
+  pub takes : (r : Tally) (m : List ℕ) → Takes (g .tally) vs (flatOccurrences list) r m → Takes none-yet vs₀ (occurrences (blocks b)) r m
   pub ids : sets is (g .block) (flatIds (g .id) list) ≡ sets is₀ 0 (ids (blocks b))
   pub endings : sets es (g .block) (flatEndings list) ≡ sets es₀ 0 (endings (blocks b))
   pub room : g .block + length (flatEndings list) ≤ 1024
 
 -- ---- before the first record
 
-pub start : (b : List ℕ) (found : Found) (vs is es : List ℕ) → readUnit b ≡ U.Unit found → length vs ≡ 56 → Left b (found .head .maps) vs is es vs is es (firstBlock (found .head) (found .body)) (record { tally = T.Count 0; block = 0; id = 0 })
+pub start : (b : List ℕ) (found : Found) (vs is es : List ℕ) → readUnit b ≡ U.Unit found → length vs ≡ 56 → Left b (found .head .maps) vs is es vs is es (firstBlock (found .head) (found .body)) (record { tally = none-yet; block = 0; id = 0 })
 unfolding used
 start b found vs is es e size =
     let l = blocks b in
@@ -172,7 +174,7 @@ module _ {b : List ℕ} {maps : ℕ} {vs₀ is₀ es₀ vs is es : List ℕ} {c 
     ended : k .list ≡ []
     ended = ended-by (nextRecord b maps c) refl
 
-    all-taken : Takes (T.Count 0) vs₀ (occurrences (blocks b)) (g .tally) vs
+    all-taken : Takes none-yet vs₀ (occurrences (blocks b)) (g .tally) vs
     unfolding flatOccurrences
     all-taken = k .takes (g .tally) vs (subst (λ (l : List Placed). Takes (g .tally) vs (flatOccurrences l) (g .tally) vs) (sym ended) (nothing (k .holds)))
 

@@ -2,7 +2,7 @@
 use Prim.Native.Nat.{ℕ, _+_, _≤_}
 use mathlib.Core.Path.{_≡_}
 use mathlib.Core.List.{List, [], _∷_, _++_}
-use lib.Dec.{eqb}
+use lib.Dec.{eqb, ltb}
 use lib.ListN.{length, take, drop}
 use lib.Seq.{sets}
 use mir.Syntax.{w32}
@@ -19,18 +19,15 @@ use Rattle.survey.specs.Collected.{Collected, all, tooMany, collect}
 use Rattle.survey.specs.declared.Survey.{Survey}
 use Rattle.survey.specs.declared.Survey.the-variants as S
 use Rattle.survey.specs.declared.occurrences.Tally.{Tally}
-use Rattle.survey.specs.declared.occurrences.Tally.the-variants as T
 use Rattle.survey.specs.declared.pass.Going.{Going}
 
 -- how many places of the lent list are used
 unfoldable pub used : Tally → ℕ
-used (T.Count n) = n
-used (T.TooMany place) = 56
+used t = pick (ltb 56 (t .count)) 56 (t .count)
 
 -- what was collected so far
 unfoldable pub gathered : Tally → List ℕ → Collected
-gathered (T.Count n) l = all (take n l)
-gathered (T.TooMany place) l = tooMany place l
+gathered t l = pick (ltb 56 (t .count)) (tooMany (t .place) l) (all (take (t .count) l))
 
 -- and then the variables that come
 unfoldable pub further : Collected → List Occurrence → Collected
@@ -39,7 +36,7 @@ further (tooMany place variables) os = tooMany place variables
 
 pub record Holds (t : Tally) (l : List ℕ) : Type 0 where
   pub size : length l ≡ 56
-  pub most : used t ≤ 56
+  pub most : t .count ≤ 57
   pub sorted : Sorted (take (used t) l)
 
 -- the variables that os name are put among those of the tally t and the list l, the rest of which is as it was
@@ -50,8 +47,7 @@ pub record Takes (t : Tally) (l : List ℕ) (os : List Occurrence) (r : Tally) (
   pub rest : drop (used r) m ≡ drop (used r) l
 
 unfoldable pub tallied : Found → Tally → Survey
-tallied found (T.Count n) = S.Unit found n
-tallied found (T.TooMany place) = S.TooMany place
+tallied found t = pick (ltb 56 (t .count)) (S.TooMany (t .place)) (S.Unit found (t .count))
 
 -- ---- what one record brings: variables, the id of a block that begins, and at a terminator the block's id and the place
 

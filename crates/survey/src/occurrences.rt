@@ -10,10 +10,10 @@ ghost use Rattle.operand.specs.Operand.{operandIn, operandsIn};
 ghost use Rattle.survey.specs.Occurrences.{ofOperand, ofOperands};
 ghost use Rattle.survey.specs.Inner.{Holds, Takes, ofInstructionIn, ofTerminatorIn};
 
-// How many variables the lent array holds, or the place of the record that brought the 57th.
-pub enum Tally {
-    Count(usize),
-    TooMany(usize),
+// How many variables the lent array holds, 57 once one more came; and then the place of the record that brought it.
+pub struct Tally {
+    pub count: usize,
+    pub place: usize,
 }
 
 // Where v stands among the first n, or n for nowhere.
@@ -33,6 +33,33 @@ fn guess_anew(variables: &[u32; 56], hints: &mut [u8; 256], n: usize)
     hint::put_hints(&all[0..n], hints);
 }
 
+// A variable put among them, for which there may be no room. It stands apart because it is rare.
+fn insert(
+    variables: &mut [u32; 56],
+    hints: &mut [u8; 256],
+    tally: Tally,
+    place: usize,
+    v: u32,
+) -> Tally
+    requires { ⌜ Holds tally (now variables) ⌝ }
+    requires { ⌜ tally .count ≤ 56 ⌝ }
+    ensures { λ r. ⌜ Takes tally (now (variables .entry)) (ofOperand place (Operand.Var v)) r (now (variables .exit)) ⌝ }
+{
+    match frame::insert(variables, tally.count, v) {
+        Inserted::Count(more) => {
+            guess_anew(variables, hints, more);
+            Tally {
+                count: more,
+                place: tally.place,
+            }
+        }
+        Inserted::Full => Tally {
+            count: 57,
+            place: place,
+        },
+    }
+}
+
 // Once a 57th variable came, nothing is inserted any more. What is there already is found by its guessed index.
 fn with_variable(
     variables: &mut [u32; 56],
@@ -44,19 +71,13 @@ fn with_variable(
     requires { ⌜ Holds tally (now variables) ⌝ }
     ensures { λ r. ⌜ Takes tally (now (variables .entry)) (ofOperand place (Operand.Var v)) r (now (variables .exit)) ⌝ }
 {
-    let Tally::Count(n) = tally else {
-        return tally;
-    };
-    if index(variables, hints, n, v) < n {
+    if 56 < tally.count {
         return tally;
     }
-    match frame::insert(variables, n, v) {
-        Inserted::Count(more) => {
-            guess_anew(variables, hints, more);
-            Tally::Count(more)
-        }
-        Inserted::Full => Tally::TooMany(place),
+    if index(variables, hints, tally.count, v) < tally.count {
+        return tally;
     }
+    insert(variables, hints, tally, place, v)
 }
 
 // The operand at byte i.

@@ -6,7 +6,6 @@ use record::Head;
 use unitfile::Cursor;
 use unitfile::Found;
 use unitfile::ReadUnit;
-use unitfile::peek;
 ghost use mathlib.Core.Path.{_≡_};
 ghost use Prim.Native.Nat.{_+_, _≤_, _<_};
 ghost use lib.ListN.{length};
@@ -66,10 +65,10 @@ fn on_record(
 fn answer(found: Found, tally: Tally) -> Survey
     ensures { λ r. ⌜ r ≡ tallied found tally ⌝ }
 {
-    match tally {
-        Tally::Count(n) => Survey::Unit(found, n),
-        Tally::TooMany(place) => Survey::TooMany(place),
+    if 56 < tally.count {
+        return Survey::TooMany(tally.place);
     }
+    Survey::Unit(found, tally.count)
 }
 
 // The blocks of a unit that was read whole.
@@ -94,7 +93,7 @@ pub(crate) fn survey_blocks(
         inside: false,
     };
     let mut g = Going {
-        tally: Tally::Count(0),
+        tally: Tally { count: 0, place: 0 },
         block: 0,
         id: 0,
     };

@@ -2,7 +2,6 @@
 mod pieces;
 
 use pieces::digits;
-use pieces::lies;
 use pieces::magnitude;
 use pieces::put_decimal;
 use pieces::put_hex;
@@ -10,6 +9,7 @@ use pieces::put_name;
 use pieces::put_sign;
 use pieces::put_word;
 use pieces::sign_length;
+use wire::lies;
 use wire::refusal::Refusal;
 ghost use mathlib.Core.Path.{_≡_};
 ghost use Rattle.wire.specs.Le.{store};

@@ -1,23 +1,13 @@
 // The pieces of a line: words, digits, names. A piece that does not lie whole in the buffer is not written.
+use wire::lies;
 ghost use mathlib.Core.Path.{_≡_};
-ghost use Prim.Native.Nat.{_+_, _≤_, _<_};
-ghost use lib.Dec.{leb};
+ghost use Prim.Native.Nat.{_≤_, _<_};
 ghost use lib.IntN.{natAbs};
 ghost use lib.ListN.{length};
 ghost use mir.Syntax.{w64};
 ghost use Rattle.wire.specs.Le.{unsignedBytes, store};
 ghost use Rattle.text.specs.Digits.{digit, decimal, sign, hex, shown, shownName};
 ghost use Rattle.text.specs.Lines.{after};
-
-// Whether n bytes from i on lie in len bytes.
-pub(crate) fn lies(i: usize, n: usize, len: usize) -> bool
-    ensures { λ r. ⌜ r ≡ leb (i + n) len ⌝ }
-{
-    if len < n {
-        return false;
-    }
-    i <= len - n
-}
 
 pub(crate) fn put_word(out: &mut [u8], at: usize, word: &[u8]) -> usize
     ensures { λ r. ⌜ r ≡ after (now (out .entry)) at (now (word .entry)) ⌝ }

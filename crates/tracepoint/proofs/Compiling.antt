@@ -33,19 +33,20 @@ use Rattle.jumps.specs.Landed.{marked, landedOf, landedFrom}
 use Rattle.jumps.specs.declared.Landed.{Landed}
 use Rattle.jumps.specs.declared.Landed.the-variants as L
 use Rattle.tracepoint.specs.Compile.{Lowering, faulty, onLanding, onLaid, onCollected, lowering, loweringOf, roomed, compileAnswer, codeOf, relocsOf, front, compileCode, compileRelocs}
-use Rattle.tracepoint.specs.Inner.{contextOf}
-use Rattle.tracepoint.specs.Notes.{Noted}
-use Rattle.tracepoint.specs.Tables.{sizeOf, Measured, Tables, unitLanding, Room}
-use Rattle.tracepoint.specs.Stages.{Surveyed, Linked, Ready, loweringBy, loweredBy, Answers}
+use Rattle.passes.specs.Inner.{contextOf}
+use Rattle.passes.specs.Notes.{Noted}
+use Rattle.passes.specs.Tables.{sizeOf, Measured, Tables, unitLanding, Room}
+use Rattle.passes.specs.Stages.{Surveyed, Linked, Ready}
+use Rattle.tracepoint.specs.Answers.{loweringBy, loweredBy, Answers}
 use Rattle.tracepoint.specs.declared.Fault.{Fault}
 use Rattle.tracepoint.specs.declared.Fault.the-variants as F
 use Rattle.tracepoint.specs.declared.Compiled.{Compiled}
 use Rattle.tracepoint.specs.declared.Compiled.the-variants as A
-use Rattle.tracepoint.specs.declared.measure.Size.{Size}
-use Rattle.tracepoint.specs.declared.measure.Size.the-variants as S
-use Rattle.tracepoint.proofs.Conditions.{context-is}
-use Rattle.tracepoint.proofs.Tables.{stored-at}
-use Rattle.tracepoint.proofs.Landing.{landed-unit}
+use Rattle.passes.specs.declared.Size.{Size}
+use Rattle.passes.specs.declared.Size.the-variants as S
+use Rattle.passes.proofs.Conditions.{context-is}
+use Rattle.passes.proofs.Tables.{stored-at}
+use Rattle.passes.proofs.Landing.{landed-unit}
 
 -- ---- answers
 

@@ -1,15 +1,1 @@
-pub mod Flat
-pub mod Steps
-pub mod Seen
-pub mod Marks
-pub mod Lists
-pub mod Plain
-pub mod Noting
-pub mod Conditions
-pub mod Measuring
-pub mod Tables
 pub mod Compiling
-pub mod Landing
-pub mod Put
-pub mod Targets
-pub mod Writing

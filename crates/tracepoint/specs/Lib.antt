@@ -1,7 +1,2 @@
 pub mod Compile
-pub mod Inner
-pub mod Seen
-pub mod Notes
-pub mod Stages
-pub mod Tables
-pub mod Put
+pub mod Answers

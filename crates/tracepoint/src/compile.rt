@@ -3,10 +3,10 @@ use crate::Compiled;
 use crate::Fault;
 use crate::context;
 use crate::measure;
-use crate::measure::Size;
 use crate::write;
 use frame::hint;
 use jumps::Landed;
+use passes::Size;
 use unitfile::Found;
 use unitfile::ReadUnit;
 ghost use mathlib.Core.Path.{_≡_};
@@ -16,8 +16,9 @@ ghost use Rattle.unitfile.specs.Unit.{parse, readUnit};
 ghost use Rattle.survey.specs.Surveyed.{blocksOf};
 ghost use Rattle.jumps.specs.Landed.{marked};
 ghost use Rattle.tracepoint.specs.Compile.{loweringOf};
-ghost use Rattle.tracepoint.specs.Inner.{contextOf};
-ghost use Rattle.tracepoint.specs.Stages.{Surveyed, Linked, Ready, loweringBy, loweredBy, Answers};
+ghost use Rattle.passes.specs.Inner.{contextOf};
+ghost use Rattle.passes.specs.Stages.{Surveyed, Linked, Ready};
+ghost use Rattle.tracepoint.specs.Answers.{loweringBy, loweredBy, Answers};
 
 // The refusals 21 and 22; or the code and the relocations, written.
 fn write_roomed(
@@ -140,6 +141,7 @@ pub(crate) fn compile_surveyed(
         found,
         variables,
         &hints,
+        endings,
         &mut marks,
         &mut counts,
         &mut named,

@@ -2,29 +2,46 @@
 use frame::hint;
 use ir::Operand;
 use ir::Terminator;
-use unitfile::Cursor;
 use unitfile::Found;
 use unitfile::ReadUnit;
-use unitfile::peek;
 ghost use mathlib.Core.Path.{_≡_};
-ghost use Prim.Native.Nat.{_+_, _*_, _≤_, _<_};
+ghost use Prim.Native.Nat.{_+_, _≤_, _<_};
 ghost use lib.ListN.{length};
+ghost use mir.Syntax.{w32};
+ghost use Rattle.wire.specs.Le.{unsignedAt};
+ghost use Rattle.peek.specs.Terminator.{terminatorIn};
 ghost use Rattle.unitfile.specs.Unit.{parse, readUnit};
 ghost use Rattle.frame.specs.Hint.{indexBy};
 ghost use Rattle.survey.specs.Surveyed.{blocksOf};
 ghost use Rattle.survey.proofs.Sorted.{Fits};
-ghost use Rattle.tracepoint.specs.Inner.{conditionAt, markAt};
-ghost use Rattle.tracepoint.specs.Seen.{closingIn};
-ghost use Rattle.tracepoint.specs.Notes.{marksAfter, countOf, firstTarget, secondTarget, Notes, Noted};
+ghost use Rattle.passes.specs.Inner.{conditionAt, markAt};
+ghost use Rattle.passes.specs.Seen.{asked};
+ghost use Rattle.passes.specs.Notes.{marksAfter, countOf, firstTarget, secondTarget, Notes, EndsAt, Noted};
 
 // A variable's mark.
-pub(crate) fn is_condition(variables: &[u32], hints: &[u8; 256], marks: &[u8; 56], v: u32) -> bool
+fn is_condition(variables: &[u32], hints: &[u8; 256], marks: &[u8; 56], v: u32) -> bool
     requires { ⌜ length (now variables) ≤ 56 ⌝ }
     ensures { λ r. ⌜ r ≡ conditionAt (now (variables .entry)) (now (marks .entry)) (indexBy (now (variables .entry)) (now (hints .entry)) v) ⌝ }
 {
     let i = hint::index_at(variables, hints, v);
     if i < variables.len() {
         return marks[i] == 1;
+    }
+    false
+}
+
+// That of the result of the instruction in a payload. Only a NullCheck, code 7, goes by it; for any other it is not looked for.
+pub(crate) fn condition_of(
+    variables: &[u32],
+    hints: &[u8; 256],
+    marks: &[u8; 56],
+    payload: &[u8],
+) -> bool
+    requires { ⌜ length (now variables) ≤ 56 ⌝ }
+    ensures { λ r. ⌜ r ≡ asked (now (payload .entry)) (conditionAt (now (variables .entry)) (now (marks .entry)) (indexBy (now (variables .entry)) (now (hints .entry)) (unsignedAt w32 (now (payload .entry)) 0))) ⌝ }
+{
+    if wire::get_u8(payload, 4) == 7 {
+        return is_condition(variables, hints, marks, wire::get_u32(payload, 0));
     }
     false
 }
@@ -102,8 +119,8 @@ fn second_target(t: Terminator) -> u32
     }
 }
 
-// What a record of block k tells, a terminator; and the number of the block that comes then.
-fn on_record(
+// What the terminator of block k tells, whose record begins at a place.
+fn note(
     unit: &[u8],
     variables: &[u32],
     hints: &[u8; 256],
@@ -111,50 +128,38 @@ fn on_record(
     counts: &mut [u8; 1024],
     targets: &mut [u32; 2048],
     k: usize,
-    kind: u16,
-    place: usize,
-) -> usize
-    requires { ⌜ (length (now variables) ≤ 56) × (place ≤ 262144) × (k + length (closingIn (now unit) place kind) ≤ 1024) ⌝ }
-    ensures { λ r. ⌜ Notes (now (variables .entry)) (now (hints .entry)) k (closingIn (now (unit .entry)) place kind) (now (marks .entry)) (now (counts .entry)) (now (targets .entry)) r (now (marks .exit)) (now (counts .exit)) (now (targets .exit)) ⌝ }
+    place: u32,
+)
+    requires { ⌜ (length (now variables) ≤ 56) × (k < 1024) ⌝ }
+    ensures { λ _. ⌜ Notes (now (variables .entry)) (now (hints .entry)) k (terminatorIn (now (unit .entry)) (place + 4)) (now (marks .entry)) (now (counts .entry)) (now (targets .entry)) (now (marks .exit)) (now (counts .exit)) (now (targets .exit)) ⌝ }
 {
-    if kind == 5 {
-        let t = record::terminator::terminator_in(unit, place + 4);
-        mark_condition(variables, hints, marks, t);
-        counts[k] = count_of(t);
-        targets[2 * k] = first_target(t);
-        targets[2 * k + 1] = second_target(t);
-        return k + 1;
-    }
-    k
+    let t = peek::terminator::terminator_in(unit, place as usize + 4);
+    mark_condition(variables, hints, marks, t);
+    counts[k] = count_of(t);
+    targets[2 * k] = first_target(t);
+    targets[2 * k + 1] = second_target(t);
 }
 
-// The blocks of a unit that was read whole.
+// The blocks of a unit that was read whole, by the places of their terminators.
 pub(crate) fn note_blocks(
     unit: &[u8],
     found: Found,
     variables: &[u32],
     hints: &[u8; 256],
+    endings: &[u32; 1024],
     marks: &mut [u8; 56],
     counts: &mut [u8; 1024],
     targets: &mut [u32; 2048],
 )
     requires { ⌜ readUnit (now unit) ≡ ReadUnit.Unit found ⌝ }
-    requires { ⌜ Fits (now variables) × (length (now marks) ≡ 56) ⌝ }
+    requires { ⌜ Fits (now variables) × EndsAt (now unit) (now endings) × (length (now marks) ≡ 56) ⌝ }
     ensures { λ _. ⌜ Noted (blocksOf (parse (now (unit .entry)))) (now (variables .entry)) (now (marks .entry)) (now (counts .entry)) (now (targets .entry)) (now (marks .exit)) (now (counts .exit)) (now (targets .exit)) ⌝ }
 {
     let head = found.head;
-    let mut c = Cursor {
-        at: found.body,
-        blocks: head.blocks,
-        inside: false,
-    };
+    let n = head.blocks as usize;
     let mut k = 0;
-    loop {
-        let p = peek::peek(unit, c);
-        if p.kind == 0 {
-            return;
-        }
-        k = on_record(
+    while k < n {
+        note(
             unit,
             variables,
             hints,
@@ -162,9 +167,8 @@ pub(crate) fn note_blocks(
             counts,
             targets,
             k,
-            p.kind,
-            c.at,
+            endings[k],
         );
-        c = p.next;
+        k += 1;
     }
 }

@@ -2,7 +2,6 @@
 mod compile;
 mod context;
 mod measure;
-mod parts;
 mod walk;
 mod write;
 

@@ -1,18 +1,16 @@
 // How many slots and relocations a unit's blocks take and where each block begins; or the first refusal.
 use crate::context;
-use crate::parts;
-use crate::parts::Parts;
 use crate::walk;
-use crate::walk::State;
 use lower::Emitted;
 use lower::Ending;
 use lower::MapUse;
 use lower::Outcome;
-use lower::Reason;
+use passes::Size;
+use passes::State;
+use passes::Taken;
 use unitfile::Cursor;
 use unitfile::Found;
 use unitfile::ReadUnit;
-use unitfile::peek;
 ghost use mathlib.Core.Path.{_≡_};
 ghost use Prim.Native.Nat.{suc, _+_, _≤_};
 ghost use lib.ListN.{length};
@@ -20,23 +18,12 @@ ghost use lib.Seq.{sets};
 ghost use Rattle.unitfile.specs.Unit.{parse, readUnit};
 ghost use Rattle.survey.specs.Surveyed.{blocksOf};
 ghost use Rattle.lower.specs.Held.{endingOps};
+ghost use Rattle.lower.specs.Payload.{scratchIn};
 ghost use Rattle.layout.specs.Layout.{at};
 ghost use Rattle.jumps.specs.Landed.{marked};
-ghost use Rattle.tracepoint.specs.Inner.{contextOf};
-ghost use Rattle.tracepoint.specs.Seen.{instructionBy, ringAfter, opsIn, scratchIn, endIn};
-ghost use Rattle.tracepoint.specs.Tables.{sizeBy, Sized, Takes, Measured};
-
-// Slots and relocations, or the place of the record that is refused.
-pub enum Size {
-    Slots(u32, u32),
-    Refused(usize, Reason),
-}
-
-// What a record takes, and the scratch ring's position after it.
-pub struct Taken {
-    pub size: Size,
-    pub scratch: u8,
-}
+ghost use Rattle.passes.specs.Inner.{contextOf};
+ghost use Rattle.passes.specs.Seen.{instructionBy, opsIn, ringAfter, endIn};
+ghost use Rattle.passes.specs.Tables.{sizeBy, Sized, Takes, Measured};
 
 fn size_of(place: usize, e: Emitted) -> Size
     ensures { λ r. ⌜ r ≡ sizeBy place e ⌝ }
@@ -52,36 +39,24 @@ fn size_of(place: usize, e: Emitted) -> Size
     }
 }
 
-// The instruction at a place by its parts, lowered into a buffer that is not kept.
+// The instruction at a place, by its payload: lowered with no room for its code.
 fn size_of_instruction(
     variables: &[u32],
     hints: &[u8; 256],
     marks: &[u8; 56],
     j: u8,
     place: usize,
-    i: Parts,
+    payload: &[u8],
 ) -> Taken
     requires { ⌜ length (now variables) ≤ 56 ⌝ }
-    ensures { λ r. ⌜ Takes (at place (instructionBy (contextOf (now (variables .entry)) (now (hints .entry)) (now (marks .entry))) j i)) (ringAfter j i) r ⌝ }
+    ensures { λ r. ⌜ Takes (at place (instructionBy (contextOf (now (variables .entry)) (now (hints .entry)) (now (marks .entry))) j (now (payload .entry)))) (scratchIn j (now (payload .entry))) r ⌝ }
 {
-    let opcode = i.opcode;
-    let few = i.few;
-    let condition = context::is_condition(variables, hints, marks, i.result);
-    let mut code = [0u8; 104];
-    let e = lower::lower_instruction(
-        &mut code,
-        0,
-        variables,
-        hints,
-        j,
-        condition,
-        i.result,
-        opcode,
-        few,
-    );
+    let condition = context::condition_of(variables, hints, marks, payload);
+    let mut none = [0u8; 0];
+    let e = lower::lower_instruction(&mut none, 0, variables, hints, j, condition, payload);
     Taken {
         size: size_of(place, e),
-        scratch: lower::scratch_after(j, opcode, few),
+        scratch: lower::scratch_after(j, payload),
     }
 }
 
@@ -96,9 +71,9 @@ fn size_of_ending(place: usize, t: Ending) -> Size
     }
 }
 
-// What the record at a place takes, by its kind.
+// What the record at a place takes, by its kind and its payload.
 fn size_of_record(
-    unit: &[u8],
+    payload: &[u8],
     variables: &[u32],
     hints: &[u8; 256],
     marks: &[u8; 56],
@@ -106,16 +81,15 @@ fn size_of_record(
     kind: u16,
     place: usize,
 ) -> Taken
-    requires { ⌜ (length (now variables) ≤ 56) × (place ≤ 262144) ⌝ }
-    ensures { λ r. ⌜ Takes (opsIn (contextOf (now (variables .entry)) (now (hints .entry)) (now (marks .entry))) st (now (unit .entry)) place kind) (scratchIn st (now (unit .entry)) place kind) r ⌝ }
+    requires { ⌜ length (now variables) ≤ 56 ⌝ }
+    ensures { λ r. ⌜ Takes (opsIn (contextOf (now (variables .entry)) (now (hints .entry)) (now (marks .entry))) st place kind (now (payload .entry))) (ringAfter st kind (now (payload .entry))) r ⌝ }
 {
     if st.emits {
         if kind == 4 {
-            let i = parts::parts_at(unit, place);
-            return size_of_instruction(variables, hints, marks, st.scratch, place, i);
+            return size_of_instruction(variables, hints, marks, st.scratch, place, payload);
         }
         if kind == 5 {
-            let t = record::terminator::terminator_in(unit, place + 4);
+            let t = peek::terminator::terminator_in(payload, 0);
             return Taken {
                 size: size_of_ending(place, lower::lower_terminator(variables, hints, t)),
                 scratch: st.scratch,
@@ -176,7 +150,8 @@ pub(crate) fn measure(
         if p.kind == 0 {
             return Size::Slots(slots, relocs);
         }
-        let taken = size_of_record(unit, variables, hints, marks, st, p.kind, c.at);
+        let payload = &unit[c.at + 4..];
+        let taken = size_of_record(payload, variables, hints, marks, st, p.kind, c.at);
         let size = taken.size;
         match size {
             Size::Slots(s, r) => {

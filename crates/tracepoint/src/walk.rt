@@ -1,15 +1,10 @@
-// What every pass over the records keeps: the block it is in, whether that block is emitted, and the scratch ring's position.
+// From one record to the next: the state that every pass keeps.
+use passes::State;
 ghost use mathlib.Core.Path.{_≡_};
 ghost use Prim.Native.Nat.{_≤_};
 ghost use lib.ListN.{length};
 ghost use Rattle.jumps.specs.Landed.{marked};
-ghost use Rattle.tracepoint.specs.Seen.{stateAfter};
-
-pub struct State {
-    pub block: usize,
-    pub emits: bool,
-    pub scratch: u8,
-}
+ghost use Rattle.passes.specs.Seen.{stateAfter};
 
 fn flag(emitted: &[u8; 1024], block: usize) -> bool
     requires { ⌜ length (now emitted) ≡ 1024 ⌝ }

@@ -1,16 +1,13 @@
 // The code and the relocations of a unit, written where there is room for all of them.
 use crate::context;
-use crate::parts;
-use crate::parts::Parts;
 use crate::walk;
-use crate::walk::State;
 use insn::Insn;
 use lower::Ending;
 use lower::MapUse;
+use passes::State;
 use unitfile::Cursor;
 use unitfile::Found;
 use unitfile::ReadUnit;
-use unitfile::peek;
 use wire::number::ByteOffset;
 use wire::number::SlotNumber;
 ghost use mathlib.Core.Path.{_≡_};
@@ -24,15 +21,16 @@ ghost use Rattle.survey.specs.Surveyed.{blocksOf};
 ghost use Rattle.lower.specs.Op.{slotsOf};
 ghost use Rattle.lower.specs.Operand.{fits16};
 ghost use Rattle.lower.specs.Held.{endingOps};
+ghost use Rattle.lower.specs.Payload.{scratchIn};
 ghost use Rattle.layout.specs.Layout.{at, ops, unitOps};
 ghost use Rattle.layout.specs.Jumps.{starts, lands, distance};
 ghost use Rattle.layout.specs.Code.{insns, codeBytes, relocations};
 ghost use Rattle.layout.specs.Inner.{keepBy};
 ghost use Rattle.jumps.specs.Landed.{marked};
-ghost use Rattle.tracepoint.specs.Inner.{contextOf};
-ghost use Rattle.tracepoint.specs.Seen.{instructionBy, ringAfter, opsIn, scratchIn, endIn};
-ghost use Rattle.tracepoint.specs.Tables.{relocsBy, Tables, Room, unitLanding};
-ghost use Rattle.tracepoint.specs.Put.{slotTo, jumpOf, reaches, Relocates, RoomAt, Puts};
+ghost use Rattle.passes.specs.Inner.{contextOf};
+ghost use Rattle.passes.specs.Seen.{instructionBy, opsIn, ringAfter, endIn};
+ghost use Rattle.passes.specs.Tables.{relocsBy, Tables, Room, unitLanding};
+ghost use Rattle.passes.specs.Put.{slotTo, jumpOf, reaches, Relocates, RoomAt, Puts};
 
 // The next slot of the code, and how many numbers the relocations have so far.
 pub struct Front {
@@ -79,25 +77,23 @@ fn put_relocation(relocs: &mut [u32], front: Front, map: MapUse, slots: u32) -> 
     }
 }
 
-// What an instruction becomes, by its parts.
+// What an instruction becomes, by its payload.
 fn put_instruction(
     variables: &[u32],
     hints: &[u8; 256],
     marks: &[u8; 56],
     j: u8,
-    i: Parts,
+    payload: &[u8],
     code: &mut [u8],
     relocs: &mut [u32],
     front: Front,
 ) -> Passed
     requires { ⌜ length (now variables) ≤ 56 ⌝ }
-    requires { ⌜ RoomAt (ops (at 0 (instructionBy (contextOf (now variables) (now hints) (now marks)) j i))) (front .slot .0) (front .relocs) (length (now code)) (length (now relocs)) ⌝ }
-    ensures { λ r. ⌜ ((a b : ℕ) → Puts a b (ops (at 0 (instructionBy (contextOf (now (variables .entry)) (now (hints .entry)) (now (marks .entry))) j i))) (front .slot .0) (front .relocs) (now (code .entry)) (now (relocs .entry)) (r .front .slot .0) (r .front .relocs) (now (code .exit)) (now (relocs .exit))) ⌝ }
-    ensures { λ r. ⌜ r .scratch ≡ ringAfter j i ⌝ }
+    requires { ⌜ RoomAt (ops (at 0 (instructionBy (contextOf (now variables) (now hints) (now marks)) j (now payload)))) (front .slot .0) (front .relocs) (length (now code)) (length (now relocs)) ⌝ }
+    ensures { λ r. ⌜ ((a b : ℕ) → Puts a b (ops (at 0 (instructionBy (contextOf (now (variables .entry)) (now (hints .entry)) (now (marks .entry))) j (now (payload .entry))))) (front .slot .0) (front .relocs) (now (code .entry)) (now (relocs .entry)) (r .front .slot .0) (r .front .relocs) (now (code .exit)) (now (relocs .exit))) ⌝ }
+    ensures { λ r. ⌜ r .scratch ≡ scratchIn j (now (payload .entry)) ⌝ }
 {
-    let opcode = i.opcode;
-    let few = i.few;
-    let condition = context::is_condition(variables, hints, marks, i.result);
+    let condition = context::condition_of(variables, hints, marks, payload);
     let slot = front.slot;
     let e = lower::lower_instruction(
         code,
@@ -106,14 +102,12 @@ fn put_instruction(
         hints,
         j,
         condition,
-        i.result,
-        opcode,
-        few,
+        payload,
     );
     let map = e.map;
     Passed {
         front: put_relocation(relocs, front, map, e.slots),
-        scratch: lower::scratch_after(j, opcode, few),
+        scratch: lower::scratch_after(j, payload),
     }
 }
 
@@ -194,9 +188,9 @@ fn put_ending(code: &mut [u8], front: Front, t: Ending, a: SlotNumber, b: SlotNu
 
 // ---- records
 
-// What the record at a place becomes, by its kind, in the block of a state.
+// What a record becomes, by its kind and its payload, in the block of a state.
 fn put_record(
-    unit: &[u8],
+    payload: &[u8],
     variables: &[u32],
     hints: &[u8; 256],
     marks: &[u8; 56],
@@ -204,27 +198,34 @@ fn put_record(
     numbers: &[u32; 2048],
     st: State,
     kind: u16,
-    place: usize,
     code: &mut [u8],
     relocs: &mut [u32],
     front: Front,
 ) -> Passed
-    requires { ⌜ (length (now variables) ≤ 56) × (place ≤ 262144) × (length (now edges) ≡ 1025) × (length (now numbers) ≡ 2048) × (st .block + length (endIn 0 kind) ≤ 1024) ⌝ }
-    requires { ⌜ RoomAt (ops (opsIn (contextOf (now variables) (now hints) (now marks)) st (now unit) place kind)) (front .slot .0) (front .relocs) (length (now code)) (length (now relocs)) ⌝ }
-    requires { ⌜ reaches (slotTo (now edges) (now numbers) (2 * st .block)) (slotTo (now edges) (now numbers) (2 * st .block + 1)) (front .slot .0) (ops (opsIn (contextOf (now variables) (now hints) (now marks)) st (now unit) place kind)) ≡ true ⌝ }
-    ensures { λ r. ⌜ Puts (slotTo (now (edges .entry)) (now (numbers .entry)) (2 * st .block)) (slotTo (now (edges .entry)) (now (numbers .entry)) (2 * st .block + 1)) (ops (opsIn (contextOf (now (variables .entry)) (now (hints .entry)) (now (marks .entry))) st (now (unit .entry)) place kind)) (front .slot .0) (front .relocs) (now (code .entry)) (now (relocs .entry)) (r .front .slot .0) (r .front .relocs) (now (code .exit)) (now (relocs .exit)) ⌝ }
-    ensures { λ r. ⌜ r .scratch ≡ scratchIn st (now (unit .entry)) place kind ⌝ }
+    requires { ⌜ (length (now variables) ≤ 56) × (length (now edges) ≡ 1025) × (length (now numbers) ≡ 2048) × (st .block + length (endIn 0 kind) ≤ 1024) ⌝ }
+    requires { ⌜ RoomAt (ops (opsIn (contextOf (now variables) (now hints) (now marks)) st 0 kind (now payload))) (front .slot .0) (front .relocs) (length (now code)) (length (now relocs)) ⌝ }
+    requires { ⌜ reaches (slotTo (now edges) (now numbers) (2 * st .block)) (slotTo (now edges) (now numbers) (2 * st .block + 1)) (front .slot .0) (ops (opsIn (contextOf (now variables) (now hints) (now marks)) st 0 kind (now payload))) ≡ true ⌝ }
+    ensures { λ r. ⌜ Puts (slotTo (now (edges .entry)) (now (numbers .entry)) (2 * st .block)) (slotTo (now (edges .entry)) (now (numbers .entry)) (2 * st .block + 1)) (ops (opsIn (contextOf (now (variables .entry)) (now (hints .entry)) (now (marks .entry))) st 0 kind (now (payload .entry)))) (front .slot .0) (front .relocs) (now (code .entry)) (now (relocs .entry)) (r .front .slot .0) (r .front .relocs) (now (code .exit)) (now (relocs .exit)) ⌝ }
+    ensures { λ r. ⌜ r .scratch ≡ ringAfter st kind (now (payload .entry)) ⌝ }
 {
     if st.emits {
         if kind == 4 {
-            let i = parts::parts_at(unit, place);
-            return put_instruction(variables, hints, marks, st.scratch, i, code, relocs, front);
+            return put_instruction(
+                variables,
+                hints,
+                marks,
+                st.scratch,
+                payload,
+                code,
+                relocs,
+                front,
+            );
         }
         if kind == 5 {
             let k = st.block;
             let a = first_slot(edges, numbers[2 * k]);
             let b = first_slot(edges, numbers[2 * k + 1]);
-            let t = record::terminator::terminator_in(unit, place + 4);
+            let t = peek::terminator::terminator_in(payload, 0);
             let ending = lower::lower_terminator(variables, hints, t);
             return Passed {
                 front: put_ending(code, front, ending, a, b),
@@ -294,8 +295,9 @@ pub(crate) fn write_unit(
         if p.kind == 0 {
             return;
         }
+        let payload = &unit[c.at + 4..];
         let passed = put_record(
-            unit,
+            payload,
             variables,
             hints,
             marks,
@@ -303,7 +305,6 @@ pub(crate) fn write_unit(
             numbers,
             st,
             p.kind,
-            c.at,
             code,
             relocs,
             front,

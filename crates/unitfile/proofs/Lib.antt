@@ -1,6 +1,5 @@
 pub mod Choice
 pub mod Run
-pub mod Peeking
 pub mod Skips
 pub mod Blocks
 pub mod Places

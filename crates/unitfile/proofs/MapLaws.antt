@@ -11,8 +11,9 @@ use lib.ListN.{length, getD, length-append, List·getD-append}
 use lib.Seq.{getD-append-seam}
 use Rattle.wire.specs.Pick.{pick}
 use Rattle.record.specs.Frame.{lengthAt, wholeAt, nextAt}
-use Rattle.record.specs.Record.{readRecord, checkedOf}
-use Rattle.record.specs.declared.Checked.the-variants as Ch
+use Rattle.record.specs.Record.{readRecord}
+use Rattle.recordcheck.specs.Checked.{checkedOf}
+use Rattle.recordcheck.specs.declared.Checked.the-variants as Ch
 use Rattle.record.specs.declared.Record.{Record}
 use Rattle.record.specs.declared.Record.the-variants as R
 use Rattle.record.specs.declared.Due.the-variants as Du

@@ -9,6 +9,7 @@ use lib.Dec.{eqb}
 use lib.ListN.{length}
 use Rattle.wire.specs.Pick.{pick}
 use Rattle.record.specs.Frame.{nextAt}
+use Rattle.record.specs.Payload.{kindOf}
 use Rattle.record.specs.Record.{readRecord}
 use Rattle.record.specs.declared.Record.{Record}
 use Rattle.record.specs.declared.Record.the-variants as R
@@ -17,7 +18,7 @@ use Rattle.record.specs.declared.Due.the-variants as Du
 use Rattle.record.specs.declared.Fault.{Fault}
 use Rattle.record.specs.declared.Read.{Read}
 use Rattle.record.specs.declared.Read.the-variants as Re
-use Rattle.unitfile.specs.Records.{moved, onRecord, nextRecord, Placed, Records, records, refused, cons, onStep, upTo, recordsFrom}
+use Rattle.unitfile.specs.Records.{after, onRecord, nextRecord, Placed, Records, records, refused, cons, onStep, upTo, recordsFrom}
 use Rattle.unitfile.specs.declared.Cursor.{Cursor}
 use Rattle.unitfile.specs.declared.Step.{Step}
 use Rattle.unitfile.specs.declared.Step.the-variants.{Go, End, Refused}
@@ -72,7 +73,7 @@ module _ (b : List ℕ) (maps : ℕ) (c : Cursor) where
   record Read-on (due : Due) (r : Record) (d : Cursor) : Type 0 where
     next : ℕ
     read : readRecord b (c .at) due maps ≡ Re.Record r next
-    to : d ≡ moved c r next
+    to : d ≡ after c (kindOf r) next
 
   read-on : (due : Due) (x : Read) → readRecord b (c .at) due maps ≡ x → (r : Record) (d : Cursor) → onRecord c x ≡ Go r d → Read-on due r d
   unfolding onRecord
@@ -81,24 +82,24 @@ module _ (b : List ℕ) (maps : ℕ) (c : Cursor) where
       record { next = next; read = h ∙ ap (λ (x : Record). Re.Record x next) z; to = cc }
   read-on due (Re.Refused f) h r d e = let z : _≡_ {A = ℕ} 0 1 = cc in absurd (omega arith)
 
-  moved-at : (r : Record) (next : ℕ) → moved c r next .at ≡ next
-  unfolding moved
-  moved-at (R.Head h) next = refl
-  moved-at (R.Map start len) next = refl
-  moved-at (R.Block id) next = refl
-  moved-at (R.Instruction i) next = refl
-  moved-at (R.Terminator t) next = refl
+  after-at : (r : Record) (next : ℕ) → after c (kindOf r) next .at ≡ next
+  unfolding after kindOf
+  after-at (R.Head h) next = refl
+  after-at (R.Map start len) next = refl
+  after-at (R.Block id) next = refl
+  after-at (R.Instruction i) next = refl
+  after-at (R.Terminator t) next = refl
 
-  inside-goes : c .inside ≡ true → (r : Record) (start next : ℕ) → Came maps start next Du.Inside r → Goes c (moved c r next) r
-  unfolding moved
+  inside-goes : c .inside ≡ true → (r : Record) (start next : ℕ) → Came maps start next Du.Inside r → Goes c (after c (kindOf r) next) r
+  unfolding after kindOf
   inside-goes h (R.Head x) start next k = k
   inside-goes h (R.Map from len) start next k = k
   inside-goes h (R.Block id) start next k = absurd k
-  inside-goes h (R.Instruction i) start next k = record { was = h; blocks = refl; inside = h }
+  inside-goes h (R.Instruction i) start next k = record { was = h; blocks = refl; inside = refl }
   inside-goes h (R.Terminator t) start next k = record { was = h; blocks = refl; outside = refl }
 
-  outside-goes : c .inside ≡ false → 0 < c .blocks → (r : Record) (start next : ℕ) → Came maps start next Du.Block r → Goes c (moved c r next) r
-  unfolding moved
+  outside-goes : c .inside ≡ false → 0 < c .blocks → (r : Record) (start next : ℕ) → Came maps start next Du.Block r → Goes c (after c (kindOf r) next) r
+  unfolding after kindOf
   outside-goes h l (R.Head x) start next k = k
   outside-goes h l (R.Map from len) start next k = k
   outside-goes h l (R.Block id) start next k = record { outside = h; due = l; blocks = refl; inside = refl }
@@ -109,10 +110,10 @@ module _ (b : List ℕ) (maps : ℕ) (c : Cursor) where
     taken : Taken b (c .at) due maps r (d .at)
     goes : Goes c d r
 
-  went-by : (due : Due) (r : Record) (d : Cursor) → ((start next : ℕ) → Came maps start next due r → Goes c (moved c r next) r) → Read-on due r d → Went due r d
+  went-by : (due : Due) (r : Record) (d : Cursor) → ((start next : ℕ) → Came maps start next due r → Goes c (after c (kindOf r) next) r) → Read-on due r d → Went due r d
   went-by due r d h o =
       let t = record-taken b (c .at) due maps r (o .next) (o .read) in
-      let a = ap (λ (x : Cursor). x .at) (o .to) ∙ moved-at r (o .next) in
+      let a = ap (λ (x : Cursor). x .at) (o .to) ∙ after-at r (o .next) in
       record { taken = subst (Taken b (c .at) due maps r) (sym a) t; goes = subst (λ (x : Cursor). Goes c x r) (sym (o .to)) (h _ (o .next) (t .came)) }
 
   abbrev Onward : Step → Type 0

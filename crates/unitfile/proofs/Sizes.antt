@@ -13,13 +13,12 @@ use Rattle.ir.specs.declared.operands.Operands.{Operands}
 use Rattle.ir.specs.declared.operands.Operands.the-variants.{Zero}
 use Rattle.ir.specs.declared.Instruction.{Instruction}
 use Rattle.ir.specs.declared.Terminator.{Terminator}
-use Rattle.ir.specs.declared.Terminator.the-variants.{Return, Jump, Branch}
 use Rattle.ir.proofs.OperandLaws.{pushed-last}
 use Rattle.record.specs.Frame.{lengthAt, kindAt, nextAt}
 use Rattle.operand.specs.Operand.{operandAt, onOperand, operandsAt}
 use Rattle.wire.specs.Pick.{both}
 use Rattle.record.specs.Instruction.{countAt, joined, sized, instructionAt}
-use Rattle.record.specs.Terminator.{returning, branching, terminatorAt}
+use Rattle.record.specs.Terminator.{returning, branching, terminatorAt, terminatorSize}
 use Rattle.record.specs.Payload.{headAt, headOk, ofInstruction, ofTerminator, payloadAt}
 use Rattle.record.specs.declared.Record.{Record}
 use Rattle.record.specs.declared.Record.the-variants as R
@@ -42,11 +41,6 @@ use Rattle.unitfile.specs.declared.Step.the-variants.{Go}
 use Rattle.unitfile.specs.Records.{Placed, records, nextRecord, recordsFrom}
 use Rattle.unitfile.proofs.Choice.{pick-ind}
 use Rattle.unitfile.proofs.Run.{taken, ended, came, came-end}
-
-unfoldable pub terminatorSize : Terminator → ℕ
-terminatorSize (Return o) = 10
-terminatorSize (Jump to) = 5
-terminatorSize (Branch o to other) = 18
 
 unfoldable pub payloadSize : Record → ℕ
 payloadSize (R.Head h) = 8

@@ -1,58 +1,23 @@
 -- A step with no value made of its record is the step, and goes where it goes.
 use mathlib.Core.Path.{_≡_, refl, ap}
-use mathlib.Core.Bool.{true}
-use mathlib.Core.List.{List}
 use Prim.Native.Nat.{ℕ}
 use native.Mathlib.Omega.{arith}
-use Rattle.record.specs.Payload.{kindOf}
-use Rattle.record.specs.Record.{readRecord, checkedOf}
+use Rattle.recordcheck.specs.Checked.{checkedOf}
 use Rattle.record.specs.declared.Record.{Record}
-use Rattle.record.specs.declared.Record.the-variants as R
-use Rattle.record.specs.declared.Due.the-variants as Du
 use Rattle.record.specs.declared.Fault.{Fault}
 use Rattle.record.specs.declared.Read.{Read}
 use Rattle.record.specs.declared.Read.the-variants as Re
-use Rattle.record.proofs.RecordLaws.{Came, record-taken}
 use Rattle.unitfile.specs.Inner.{skipOf, onChecked}
-use Rattle.unitfile.specs.Peek.{after}
-use Rattle.unitfile.specs.Records.{moved, onRecord}
+use Rattle.unitfile.specs.Records.{onRecord}
 use Rattle.unitfile.specs.declared.Cursor.{Cursor}
 use Rattle.unitfile.specs.declared.Step.{Step}
 use Rattle.unitfile.specs.declared.Step.the-variants as St
 use Rattle.unitfile.specs.declared.walk.Skip.the-variants as Sk
 
-module _ (b : List ℕ) (maps : ℕ) (c : Cursor) where
-  moved-inside : c .inside ≡ true → (r : Record) (start next : ℕ) → Came maps start next Du.Inside r → after c (kindOf r) next ≡ moved c r next
-  unfolding after kindOf moved
-  moved-inside i (R.Head h) start next k = absurd k
-  moved-inside i (R.Map from len) start next k = absurd k
-  moved-inside i (R.Block id) start next k = absurd k
-  moved-inside i (R.Instruction x) start next k = rw i refl
-  moved-inside i (R.Terminator t) start next k = refl
-
-  moved-outside : (r : Record) (start next : ℕ) → Came maps start next Du.Block r → after c (kindOf r) next ≡ moved c r next
-  unfolding after kindOf moved
-  moved-outside (R.Head h) start next k = absurd k
-  moved-outside (R.Map from len) start next k = absurd k
-  moved-outside (R.Block id) start next k = refl
-  moved-outside (R.Instruction x) start next k = absurd k
-  moved-outside (R.Terminator t) start next k = absurd k
-
-  inside-by : c .inside ≡ true → (x : Read) → readRecord b (c .at) Du.Inside maps ≡ x → onChecked c (checkedOf x) ≡ skipOf (onRecord c x)
-  unfolding onChecked checkedOf skipOf onRecord
-  inside-by i (Re.Record r next) e = ap Sk.Go (moved-inside i r _ next (record-taken b (c .at) Du.Inside maps r next e .came))
-  inside-by i (Re.Refused f) e = refl
-
-  outside-by : (x : Read) → readRecord b (c .at) Du.Block maps ≡ x → onChecked c (checkedOf x) ≡ skipOf (onRecord c x)
-  unfolding onChecked checkedOf skipOf onRecord
-  outside-by (Re.Record r next) e = ap Sk.Go (moved-outside r _ next (record-taken b (c .at) Du.Block maps r next e .came))
-  outside-by (Re.Refused f) e = refl
-
-  pub skip-inside : c .inside ≡ true → onChecked c (checkedOf (readRecord b (c .at) Du.Inside maps)) ≡ skipOf (onRecord c (readRecord b (c .at) Du.Inside maps))
-  skip-inside i = inside-by i _ refl
-
-  pub skip-outside : onChecked c (checkedOf (readRecord b (c .at) Du.Block maps)) ≡ skipOf (onRecord c (readRecord b (c .at) Du.Block maps))
-  skip-outside = outside-by _ refl
+pub skip-on : (c : Cursor) (x : Read) → onChecked c (checkedOf x) ≡ skipOf (onRecord c x)
+unfolding onChecked checkedOf skipOf onRecord
+skip-on c (Re.Record r next) = refl
+skip-on c (Re.Refused f) = refl
 
 -- the step that it is
 pub record Steps (x : Step) (d : Cursor) : Type 0 where

@@ -6,8 +6,8 @@ use Rattle.wire.specs.Pick.{pick}
 use Rattle.record.specs.Frame.{lengthAt, wholeAt, nextAt}
 use Rattle.record.specs.Record.{readRecord}
 use Rattle.record.specs.declared.Record.the-variants as R
-use Rattle.record.specs.declared.Checked.{Checked}
-use Rattle.record.specs.declared.Checked.the-variants as Ch
+use Rattle.recordcheck.specs.declared.Checked.{Checked}
+use Rattle.recordcheck.specs.declared.Checked.the-variants as Ch
 use Rattle.record.specs.declared.Due.the-variants as Du
 use Rattle.record.specs.declared.Fault.{Fault}
 use Rattle.record.specs.declared.Fault.the-variants.{TooLong, NoHead, NotDue, Broken}
@@ -26,7 +26,7 @@ use Rattle.unitfile.specs.declared.names.Maps.{Maps}
 use Rattle.unitfile.specs.declared.names.Maps.the-variants as Ms
 use Rattle.unitfile.specs.declared.names.HeadAt.{HeadAt}
 use Rattle.unitfile.specs.declared.names.HeadAt.the-variants as H
-use Rattle.unitfile.specs.Peek.{after}
+use Rattle.unitfile.specs.Records.{after}
 use Rattle.unitfile.specs.Names.{sameName, part, Names, named, refused, Opened, opened, shut}
 
 -- why no record was read, where none was

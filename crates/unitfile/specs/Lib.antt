@@ -1,6 +1,5 @@
 pub mod Names
 pub mod Records
-pub mod Peek
 pub mod Unit
 pub mod MapName
 pub mod Inner

@@ -1,13 +1,13 @@
 -- The records of a unit's blocks, one after the other: per block one block record, its instructions, one terminator.
 use Prim.Native.Nat.{ℕ, zero, suc, _-_}
-use mathlib.Core.Bool.{Bool, true, false}
+use mathlib.Core.Bool.{true}
 use mathlib.Core.List.{List, [], _∷_}
 use lib.Dec.{eqb}
 use lib.ListN.{length}
 use Rattle.wire.specs.Pick.{pick}
+use Rattle.record.specs.Payload.{kindOf}
 use Rattle.record.specs.Record.{readRecord}
 use Rattle.record.specs.declared.Record.{Record}
-use Rattle.record.specs.declared.Record.the-variants as R
 use Rattle.record.specs.declared.Due.the-variants as Du
 use Rattle.record.specs.declared.Fault.{Fault}
 use Rattle.record.specs.declared.Fault.the-variants.{NotDue}
@@ -17,16 +17,13 @@ use Rattle.unitfile.specs.declared.Cursor.{Cursor}
 use Rattle.unitfile.specs.declared.Step.{Step}
 use Rattle.unitfile.specs.declared.Step.the-variants.{Go, End, Refused}
 
--- what is due after a record: a block record opens a block, a terminator closes it
-unfoldable pub moved : Cursor → Record → ℕ → Cursor
-moved c (R.Block i) next = record { at = next; blocks = c .blocks - 1; inside = true }
-moved c (R.Terminator t) next = record { at = next; blocks = c .blocks; inside = false }
-moved c (R.Instruction i) next = record { at = next; blocks = c .blocks; inside = c .inside }
-moved c (R.Head h) next = record { at = next; blocks = c .blocks; inside = c .inside }
-moved c (R.Map start len) next = record { at = next; blocks = c .blocks; inside = c .inside }
+-- what is due after a record of a kind: a block record opens a block, and after an instruction it is still open
+unfoldable pub after : Cursor → ℕ → ℕ → Cursor
+after c kind next =
+    pick (eqb kind 3) (record { at = next; blocks = c .blocks - 1; inside = true }) (record { at = next; blocks = c .blocks; inside = eqb kind 4 })
 
 unfoldable pub onRecord : Cursor → Read → Step
-onRecord c (Re.Record r next) = Go r (moved c r next)
+onRecord c (Re.Record r next) = Go r (after c (kindOf r) next)
 onRecord c (Re.Refused f) = Refused f
 
 -- inside a block an instruction or its terminator is due, else a block while one is left, else the end of the bytes

@@ -1,6 +1,5 @@
 // The whole unit file.
 mod names;
-pub mod peek;
 mod walk;
 
 use names::HeadAt;
@@ -10,7 +9,8 @@ use record::Fault;
 use record::Head;
 use record::Record;
 ghost use mathlib.Core.Path.{_≡_};
-ghost use Rattle.unitfile.specs.Records.{nextRecord};
+ghost use Prim.Native.Nat.{_-_};
+ghost use Rattle.unitfile.specs.Records.{after, nextRecord};
 ghost use Rattle.unitfile.specs.Unit.{readUnit, parse};
 ghost use Rattle.unitfile.specs.MapName.{placeOf, nameOf, namedOf};
 
@@ -51,6 +51,33 @@ pub enum MapPlace {
     At { start: usize, len: usize },
     NoSuchMap,
     Refused(Fault),
+}
+
+fn one_less(n: u32) -> u32
+    ensures { λ r. ⌜ r ≡ n - 1 ⌝ }
+{
+    if n == 0 {
+        return 0;
+    }
+    n - 1
+}
+
+// What is due after a record of a kind.
+pub fn after(c: Cursor, kind: u16, next: usize) -> Cursor
+    ensures { λ r. ⌜ r ≡ after c kind next ⌝ }
+{
+    if kind == 3 {
+        return Cursor {
+            at: next,
+            blocks: one_less(c.blocks),
+            inside: true,
+        };
+    }
+    Cursor {
+        at: next,
+        blocks: c.blocks,
+        inside: kind == 4,
+    }
 }
 
 // The record at a cursor, in a unit of so many maps.

@@ -2,12 +2,12 @@
 use crate::Found;
 use crate::ReadUnit;
 use crate::walk;
-use record::Checked;
 use record::Due;
 use record::Fault;
 use record::Head;
 use record::Read;
 use record::Record;
+use recordcheck::Checked;
 ghost use mathlib.Core.Path.{_≡_};
 ghost use mathlib.Core.List.{[]};
 ghost use lib.ListN.{length};
@@ -27,7 +27,7 @@ pub enum MapAt {
 pub(crate) fn map_at(s: &[u8], at: usize) -> MapAt
     ensures { λ r. ⌜ (r ≡ mapAt (now (s .entry)) at) × Lies (length (now (s .entry))) r ⌝ }
 {
-    match record::check_record(s, at, Due::Map, 0) {
+    match recordcheck::check_record(s, at, Due::Map, 0) {
         Checked::Next(_, next) => {
             let start = at + 4;
             MapAt::Is {

@@ -3,15 +3,12 @@ use crate::Cursor;
 use crate::Found;
 use crate::ReadUnit;
 use crate::Step;
-use crate::peek;
-use record::Checked;
 use record::Due;
 use record::Fault;
 use record::Read;
-use record::Record;
+use recordcheck::Checked;
 ghost use mathlib.Core.Path.{_≡_};
-ghost use Prim.Native.Nat.{_-_};
-ghost use Rattle.unitfile.specs.Records.{moved, onRecord, nextRecord, recordsFrom};
+ghost use Rattle.unitfile.specs.Records.{onRecord, nextRecord, recordsFrom};
 ghost use Rattle.unitfile.specs.Unit.{firstBlock, foundWith};
 ghost use Rattle.unitfile.specs.Inner.{faultOf, skipOf, onChecked};
 
@@ -25,55 +22,13 @@ pub(crate) fn fault(read: Read) -> Fault
     }
 }
 
-pub(crate) fn one_less(n: u32) -> u32
-    ensures { λ r. ⌜ r ≡ n - 1 ⌝ }
-{
-    if n == 0 {
-        return 0;
-    }
-    n - 1
-}
-
-// What is due after a record.
-fn moved(c: Cursor, r: Record, next: usize) -> Cursor
-    ensures { λ d. ⌜ d ≡ moved c r next ⌝ }
-{
-    match r {
-        Record::Block(_) => Cursor {
-            at: next,
-            blocks: one_less(c.blocks),
-            inside: true,
-        },
-        Record::Terminator(_) => Cursor {
-            at: next,
-            blocks: c.blocks,
-            inside: false,
-        },
-        Record::Instruction(_) => Cursor {
-            at: next,
-            blocks: c.blocks,
-            inside: c.inside,
-        },
-        Record::Head(_) => Cursor {
-            at: next,
-            blocks: c.blocks,
-            inside: c.inside,
-        },
-        Record::Map { start: _, len: _ } => Cursor {
-            at: next,
-            blocks: c.blocks,
-            inside: c.inside,
-        },
-    }
-}
-
 pub(crate) fn on_record(c: Cursor, read: Read) -> Step
     ensures { λ r. ⌜ r ≡ onRecord c read ⌝ }
 {
     let Read::Record(r, next) = read else {
         return Step::Refused(fault(read));
     };
-    Step::Go(r, moved(c, r, next))
+    Step::Go(r, crate::after(c, record::kind(r), next))
 }
 
 // A step with no value made of its record.
@@ -87,7 +42,7 @@ fn on_checked(c: Cursor, checked: Checked) -> Skip
     ensures { λ r. ⌜ r ≡ onChecked c checked ⌝ }
 {
     match checked {
-        Checked::Next(kind, next) => Skip::Go(peek::after(c, kind, next)),
+        Checked::Next(kind, next) => Skip::Go(crate::after(c, kind, next)),
         Checked::Refused(f) => Skip::Refused(f),
     }
 }
@@ -98,7 +53,7 @@ fn skip_record(s: &[u8], maps: u16, c: Cursor) -> Skip
 {
     let at = c.at;
     if c.inside {
-        return on_checked(c, record::check_record(s, at, Due::Inside, maps));
+        return on_checked(c, recordcheck::check_record(s, at, Due::Inside, maps));
     }
     if c.blocks == 0 {
         if at == s.len() {
@@ -106,7 +61,7 @@ fn skip_record(s: &[u8], maps: u16, c: Cursor) -> Skip
         }
         return Skip::Refused(Fault::NotDue(at));
     }
-    on_checked(c, record::check_record(s, at, Due::Block, maps))
+    on_checked(c, recordcheck::check_record(s, at, Due::Block, maps))
 }
 
 // The blocks of a unit whose maps were read.

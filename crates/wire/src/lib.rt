@@ -12,7 +12,7 @@ ghost use mir.Val.{toZ, ofZ};
 ghost use Rattle.wire.specs.Le.{byteAt, le, bytesOf, unsignedAt, signedAt, unsignedBytes, signedBytes, store};
 
 // Whether n bytes from i on lie in len bytes.
-fn lies(i: usize, n: usize, len: usize) -> bool
+pub fn lies(i: usize, n: usize, len: usize) -> bool
     ensures { λ r. ⌜ r ≡ leb (i + n) len ⌝ }
 {
     if len < n {
@@ -112,7 +112,8 @@ fn sign64(x: u64) -> i64
     }
 }
 
-fn bits16(z: i16) -> u16
+// A signed number's bits, as an unsigned number.
+pub fn bits16(z: i16) -> u16
     ensures { λ r. ⌜ r ≡ ofZ w16 z ⌝ }
 {
     if z < 0 {
@@ -122,7 +123,7 @@ fn bits16(z: i16) -> u16
     }
 }
 
-fn bits32(z: i32) -> u32
+pub fn bits32(z: i32) -> u32
     ensures { λ r. ⌜ r ≡ ofZ w32 z ⌝ }
 {
     if z < 0 {

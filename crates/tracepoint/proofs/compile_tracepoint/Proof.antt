@@ -3,7 +3,7 @@ use borrow.Author.Needs.{needs}
 use mathlib.Core.Path.{refl, sym, _∙_}
 use native.Mathlib.Nat.{sub-zero}
 use Rattle.survey.proofs.Answers.{refused-means, too-many-means}
-use Rattle.tracepoint.proofs.Tables.{variables-inside, surveyed}
+use Rattle.passes.proofs.Tables.{variables-inside, surveyed}
 use Rattle.tracepoint.proofs.Compiling.{compiles, when-refused, when-too-many}
 use Rattle.tracepoint.proofs.compile_tracepoint.Statement.{statement}
 use Rattle.tracepoint.proofs.compile_tracepoint.Tie as tie

@@ -1,7 +1,7 @@
 -- NullCheck.
 use Rattle.lower.specs.Instruction.{opcode}
 use Rattle.lower.specs.Step.{mapOps}
-use Rattle.lower.proofs.Counts.{few-first, few-no-first}
+use Rattle.lower.proofs.Counts.{first-is, no-first}
 use Rattle.lower.proofs.Compose.{along, none-put, null-five}
 use Rattle.lower.proofs.Pieces.{null-parts}
 use borrow.Author.Needs.{needs}
@@ -13,7 +13,10 @@ refused-requires c κs = search needs
 
 returns : tie.Need-returns
 unfolding opcode
-returns c = none-put (c .refused .ensures) (few-no-first (c .before .before .before .before .before .args .few) _ (c .before .if1 .taken))
+returns c = none-put (c .refused .ensures) (no-first (c .before .before .before .before .before .args .payload .now) 16 (c .before .before .before .before .before .args .n) _ (c .before .if1 .taken))
+
+operand-in-requires : tie.Need-operand-in-requires
+operand-in-requires c κs = search needs
 
 load-requires : tie.Need-load-requires
 load-requires c κs = search needs
@@ -38,7 +41,10 @@ same-length c = search needs
 
 returns-2 : tie.Need-returns-2
 unfolding opcode mapOps
-returns-2 c = along (few-first (c .before .before .before .before .before .before .before .before .before .before .before .before .before .args .few) _ (c .before .before .before .before .before .before .before .before .before .if1 .left)) (null-five (c .before .before .five .ensures) (c .before .before .before .before .before .before .before .load .ensures) (c .before .before .before .before .before .before .null-test .ensures) (c .before .before .before .before .before .null-zero .ensures) (c .before .before .before .before .null-rest .ensures) (null-parts _) (c .before .before .before .keep .ensures))
+returns-2 c =
+    let s = c .before .before .before .before .before .before .before .before .before .before .before .before .before .before in
+    along (first-is (s .args .payload .now) 16 (s .args .n) _ (c .before .before .before .before .before .before .before .before .before .operand-in .ensures) (c .before .before .before .before .before .before .before .before .before .before .if1 .left))
+    (null-five (c .before .before .five .ensures) (c .before .before .before .before .before .before .before .load .ensures) (c .before .before .before .before .before .before .null-test .ensures) (c .before .before .before .before .before .null-zero .ensures) (c .before .before .before .before .null-rest .ensures) (null-parts _) (c .before .before .before .keep .ensures))
 
 pub null-check-spec : {M : Type 1} → statement M
-null-check-spec = tie.close (tie.spec refused-requires returns load-requires null-test-requires null-zero-requires null-rest-requires keep-requires five-requires same-length returns-2)
+null-check-spec = tie.close (tie.spec refused-requires returns operand-in-requires load-requires null-test-requires null-zero-requires null-rest-requires keep-requires five-requires same-length returns-2)

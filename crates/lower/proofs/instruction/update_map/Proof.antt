@@ -6,7 +6,7 @@ use Rattle.frame.specs.Hint.{frameBy}
 use Rattle.lower.specs.Operand.{addr, constant, call, mapAddress}
 use Rattle.lower.specs.Instruction.{opcode}
 use Rattle.lower.specs.Step.{mapOps}
-use Rattle.lower.proofs.Counts.{few-two, few-not-two}
+use Rattle.lower.proofs.Counts.{two-are, not-two}
 use Rattle.lower.proofs.Compose.{along, none-put, update-six}
 use Rattle.lower.proofs.Pieces.{addr-parts, same-scratch}
 use borrow.Author.Needs.{needs}
@@ -18,7 +18,13 @@ refused-requires c κs = search needs
 
 returns : tie.Need-returns
 unfolding opcode
-returns c = none-put (c .refused .ensures) (few-not-two (c .before .before .before .before .args .few) _ (c .before .if1 .taken))
+returns c = none-put (c .refused .ensures) (not-two (c .before .before .before .before .before .args .payload .now) 16 (c .before .before .before .before .before .args .n) _ (c .before .if1 .taken))
+
+operand-in-requires : tie.Need-operand-in-requires
+operand-in-requires c κs = search needs
+
+operand-in-requires-2 : tie.Need-operand-in-requires-2
+operand-in-requires-2 c κs = search needs
 
 next-requires : tie.Need-next-requires
 next-requires c κs = search needs
@@ -50,12 +56,14 @@ same-length c = search needs
 returns-2 : tie.Need-returns-2
 unfolding opcode mapOps mapAddress
 returns-2 c =
-    let s = c .before .before .before .before .before .before .before .before .before .before .before .before .before .before in
+    let s = c .before .before .before .before .before .before .before .before .before .before .before .before .before .before .before .before .before in
     let f = frameBy (s .args .variables .now) (s .args .hints .now) in
+    let a = c .before .before .before .before .before .before .before .before .before .before .before .before .operand-in .result in
+    let b = c .before .before .before .before .before .before .before .before .before .before .before .operand-in2 .result in
     let k = c .before .before .before .before .before .before .before .before .before .before .next in
-    let value = addr-parts f (k .result) 3 (s .args .few .b) ∙ ap (λ (j : ℕ). addr f j 3 (s .args .few .b)) (k .ensures) in
-    along (few-two (s .args .few) _ (c .before .before .before .before .before .before .before .before .before .before .before .if1 .left))
-    (update-six _ (constant 4 (pos 0)) (call 2) (c .before .before .six .ensures) (c .before .before .before .before .before .before .before .before .put-scratch .ensures ∙ same-scratch (s .args .variables .now) (s .args .hints .now) (s .args .j) 2 (s .args .few .a)) (c .before .before .before .before .before .before .before .take-addr .ensures) (addr-parts f (s .args .j) 2 (s .args .few .a)) (c .before .before .before .before .before .before .put-scratch2 .ensures ∙ same-scratch (s .args .variables .now) (s .args .hints .now) (k .result) 3 (s .args .few .b)) (c .before .before .before .before .before .take-addr2 .ensures) value (c .before .before .before .before .call-update .ensures) (c .before .before .before .keep .ensures))
+    let value = addr-parts f (k .result) 3 b ∙ ap (λ (j : ℕ). addr f j 3 b) (k .ensures) in
+    along (two-are (s .args .payload .now) 16 (s .args .n) _ (c .before .before .before .before .before .before .before .before .before .before .before .before .operand-in .ensures) (c .before .before .before .before .before .before .before .before .before .before .before .operand-in2 .ensures) (c .before .before .before .before .before .before .before .before .before .before .before .before .before .if1 .left))
+    (update-six _ (constant 4 (pos 0)) (call 2) (c .before .before .six .ensures) (c .before .before .before .before .before .before .before .before .put-scratch .ensures ∙ same-scratch (s .args .variables .now) (s .args .hints .now) (s .args .j) 2 a) (c .before .before .before .before .before .before .before .take-addr .ensures) (addr-parts f (s .args .j) 2 a) (c .before .before .before .before .before .before .put-scratch2 .ensures ∙ same-scratch (s .args .variables .now) (s .args .hints .now) (k .result) 3 b) (c .before .before .before .before .before .take-addr2 .ensures) value (c .before .before .before .before .call-update .ensures) (c .before .before .before .keep .ensures))
 
 pub update-map-spec : {M : Type 1} → statement M
-update-map-spec = tie.close (tie.spec refused-requires returns next-requires put-scratch-requires take-addr-requires put-scratch-requires-2 take-addr-requires-2 call-update-requires keep-requires six-requires same-length returns-2)
+update-map-spec = tie.close (tie.spec refused-requires returns operand-in-requires operand-in-requires-2 next-requires put-scratch-requires take-addr-requires put-scratch-requires-2 take-addr-requires-2 call-update-requires keep-requires six-requires same-length returns-2)

@@ -2,7 +2,7 @@
 use native.Mathlib.Omega.{arith}
 use Rattle.insn.specs.Rfc.{sizeField}
 use Rattle.insn.specs.Form.{opcodeOf}
-use Rattle.lower.specs.Put.{wideInsn, zeroInsn}
+use Rattle.lower.specs.Put.{wideInsn}
 use Rattle.lower.proofs.Steps.{put-no-map, put-a-map}
 use borrow.Author.Needs.{needs}
 use Rattle.lower.proofs.list.put_map.Statement.{statement}
@@ -13,6 +13,9 @@ enum-told c = search needs
 
 enum-told-2 : tie.Need-enum-told-2
 enum-told-2 c = search needs
+
+word-requires : tie.Need-word-requires
+word-requires c κs = search needs
 
 put-slot-requires : tie.Need-put-slot-requires
 put-slot-requires c κs = search needs
@@ -27,8 +30,10 @@ same-length : tie.Need-same-length
 same-length c = search needs
 
 returns-2 : tie.Need-returns-2
-unfolding wideInsn zeroInsn opcodeOf sizeField
-returns-2 c = (put-a-map (c .before .before .before .before .before .before .before .before .before .before .before .args .code .now) (c .before .before .before .before .before .before .before .before .before .before .before .args .at) (c .before .before .before .before .before .before .before .before .enum-told2 .given .1) (c .before .before .before .before .before .before .put-slot .ensures) (c .before .before .put-slot2 .ensures), omega arith)
+unfolding wideInsn opcodeOf sizeField
+returns-2 c =
+    let s = c .before .before .before .before .before .before .before .before .before .before .before .before in
+    (put-a-map (s .args .code .now) (s .args .at) (c .before .before .before .before .before .before .before .before .before .enum-told2 .given .1) (c .before .before .before .before .before .before .before .before .word .ensures) (c .before .before .before .before .before .before .put-slot .ensures) (c .before .before .put-slot2 .ensures), omega arith)
 
 pub put-map-spec : {M : Type 1} → statement M
-put-map-spec = tie.close (tie.spec enum-told enum-told-2 put-slot-requires put-slot-requires-2 returns same-length returns-2)
+put-map-spec = tie.close (tie.spec enum-told enum-told-2 word-requires put-slot-requires put-slot-requires-2 returns same-length returns-2)

@@ -1,6 +1,8 @@
--- `put_slot` stores an instruction where its slot lies in the code.
+-- `put_slot` stores a word where its slot lies in the code.
 use native.Mathlib.Omega.{arith}
+use Rattle.insn.specs.Layout.{insnOf}
 use Rattle.insn.proofs.Pieces.{not-stored}
+use Rattle.insn.proofs.Words.{bytes-insn}
 use borrow.Author.Needs.{needs}
 use Rattle.lower.proofs.list.put_slot.Statement.{statement}
 use Rattle.lower.proofs.list.put_slot.Tie as tie
@@ -8,22 +10,24 @@ use Rattle.lower.proofs.list.put_slot.Tie as tie
 returns : tie.Need-returns
 returns c =
     let s = c .before .before in
-    not-stored (s .args .code .now) _ (s .args .i) (omega arith)
+    not-stored (s .args .code .now) _ (insnOf (s .args .word)) (omega arith)
 
-mul-put-insn : tie.Need-mul-put-insn
-mul-put-insn c = search needs
+mul-put-u64 : tie.Need-mul-put-u64
+mul-put-u64 c = search needs
 
-add-put-insn : tie.Need-add-put-insn
-add-put-insn c = search needs
+add-put-u64 : tie.Need-add-put-u64
+add-put-u64 c = search needs
 
-put-insn-requires : tie.Need-put-insn-requires
-put-insn-requires c κs = search needs
+put-u64-requires : tie.Need-put-u64-requires
+put-u64-requires c κs = search needs
 
 same-length : tie.Need-same-length
 same-length c = search needs
 
 returns-2 : tie.Need-returns-2
-returns-2 c = search needs
+returns-2 c =
+    let s = c .before .before .before .before .before .before in
+    rw (bytes-insn (s .args .word)) (c .before .before .put-u64 .ensures)
 
 pub put-slot-spec : {M : Type 1} → statement M
-put-slot-spec = tie.close (tie.spec returns mul-put-insn add-put-insn put-insn-requires same-length returns-2)
+put-slot-spec = tie.close (tie.spec returns mul-put-u64 add-put-u64 put-u64-requires same-length returns-2)

@@ -1,49 +1,68 @@
 -- `fields_at` reads the four fields of a payload one by one.
-use mir.Syntax.{w32}
-use mathlib.Core.Path.{_∙_}
+use mathlib.Core.Path.{sym, _∙_}
+use Prim.Native.Nat.{_+_, _≤_}
+use native.Mathlib.Omega.{arith}
 use borrow.Author.Needs.{needs}
+use borrow.Author.Tests.{leb-true}
+use lib.ListN.{length}
+use mir.Syntax.{w32}
 use Rattle.wire.proofs.Sign.{back}
-use Rattle.record.proofs.Instructions.{fields-read}
+use Rattle.record.specs.Instruction.{fieldsIn}
+use Rattle.record.proofs.Instructions.{fields-there, fields-read}
 use Rattle.record.proofs.instruction.fields_at.Statement.{statement}
 use Rattle.record.proofs.instruction.fields_at.Tie as tie
 
-add-t3 : tie.Need-add-t3
-add-t3 c = search needs
+room : (c : tie.Then1) → c .before .before .before .args .at + 16 ≤ length (c .before .before .before .args .s .now)
+room c = leb-true _ _ (sym (c .before .lies .ensures) ∙ c .if1 .taken)
 
-shared-slice-read-t5 : tie.Need-shared-slice-read-t5
-shared-slice-read-t5 c = search needs
+lies-requires : tie.Need-lies-requires
+lies-requires c κs = search needs
 
-add-t6 : tie.Need-add-t6
-add-t6 c = search needs
+add-t5 : tie.Need-add-t5
+add-t5 c = omega (arith, room c)
 
-shared-slice-read-t8 : tie.Need-shared-slice-read-t8
-shared-slice-read-t8 c = search needs
+shared-slice-read-t7 : tie.Need-shared-slice-read-t7
+shared-slice-read-t7 c = omega (arith, room (c .before))
+
+add-t8 : tie.Need-add-t8
+add-t8 c = omega (arith, room (c .before))
+
+shared-slice-read-t10 : tie.Need-shared-slice-read-t10
+shared-slice-read-t10 c = omega (arith, room (c .before .before))
 
 add-get-i32 : tie.Need-add-get-i32
-add-get-i32 c = search needs
+add-get-i32 c = omega (arith, room (c .before .before))
 
 get-i32-requires : tie.Need-get-i32-requires
 get-i32-requires c κs = search needs
 
 add-get-u32 : tie.Need-add-get-u32
-add-get-u32 c = search needs
+add-get-u32 c = omega (arith, room (c .before .before .before))
 
 get-u32-requires : tie.Need-get-u32-requires
 get-u32-requires c κs = search needs
 
 returns : tie.Need-returns
-returns c = fields-read (c .before .before .before .before .before .args .s .now) (c .before .before .before .before .before .args .at) _ _ (back w32 (c .before .get-i32 .result) (c .before .get-i32 .ok) ∙ c .before .get-i32 .ensures) (c .get-u32 .ensures)
+returns c =
+    let a = c .before .before .before .before .before .before .before .args in
+    fields-read (a .s .now) (a .at) _ _ (back w32 (c .before .get-i32 .result) (c .before .get-i32 .ok) ∙ c .before .get-i32 .ensures) (c .get-u32 .ensures) ∙ sym (fields-there (a .s .now) (a .at) (room (c .before .before .before .before)))
+
+returns-2 : tie.Need-returns-2
+unfolding fieldsIn
+returns-2 c = simp (sym (c .before .lies .ensures) ∙ c .if1 .left)
 
 pub fields-at-spec : {M : Type 1} → statement M
 fields-at-spec =
     tie.close
     (tie.spec
-    add-t3
-    shared-slice-read-t5
-    add-t6
-    shared-slice-read-t8
+    lies-requires
+    add-t5
+    shared-slice-read-t7
+    add-t8
+    shared-slice-read-t10
     add-get-i32
     get-i32-requires
     add-get-u32
     get-u32-requires
-    returns)
+    returns
+    returns-2)

@@ -4,7 +4,7 @@ use mathlib.Core.Bool.{true}
 use Prim.Native.Nat.{_+_, _*_}
 use native.Mathlib.Omega.{arith}
 use borrow.Author.Needs.{needs}
-use Rattle.record.proofs.Instructions.{right-size, joined-broken}
+use Rattle.record.proofs.Instructions.{right-size, sized-there, fields-there, joined-broken}
 use Rattle.wire.specs.Le.{byteAt}
 use Rattle.opcode.specs.declared.Fields.{Fields}
 use Rattle.record.specs.Instruction.{fieldsAt, countAt, joined, sized, instructionAt}
@@ -13,19 +13,24 @@ use Rattle.record.proofs.instruction.instruction_at.Statement.{statemen
 use Rattle.record.proofs.instruction.instruction_at.Tie as tie
 
 is-sized : (c : tie.Then1) → sized (c .before .before .before .args .s .now) (c .before .before .before .args .at) (c .before .before .before .args .len) ≡ true
-is-sized c = sym (c .before .sized .ensures) ∙ c .if1 .taken
+is-sized c = sym (c .before .sized .ensures ∙ sized-there _ _ _ (c .before .before .before .pre)) ∙ c .if1 .taken
 
 size : (c : tie.Then1) → c .before .before .before .args .len ≡ 16 + 9 * byteAt (c .before .before .before .args .s .now) (c .before .before .before .args .at + 6)
 size c = right-size _ _ _ (is-sized c)
 
+fields-found : (c : tie.After-fields-at) → c .fields-at .result ≡ fieldsAt (c .before .before .before .before .args .s .now) (c .before .before .before .before .args .at)
+fields-found c =
+    let a = c .before .before .before .before .args in
+    c .fields-at .ensures ∙ fields-there (a .s .now) (a .at) (omega (arith, size (c .before)))
+
 read-opcode : (c : tie.After-opcode-of) → opcodeOf (fieldsAt (c .before .before .before .before .before .args .s .now) (c .before .before .before .before .before .args .at)) (c .before .before .before .before .before .args .maps) ≡ c .opcode-of .result
-read-opcode c = sym (c .opcode-of .ensures ∙ ap (λ (f : Fields). opcodeOf f (c .before .before .before .before .before .args .maps)) (c .before .fields-at .ensures))
+read-opcode c = sym (c .opcode-of .ensures ∙ ap (λ (f : Fields). opcodeOf f (c .before .before .before .before .before .args .maps)) (fields-found (c .before)))
 
 sized-requires : tie.Need-sized-requires
 sized-requires c κs = search needs
 
 fields-at-requires : tie.Need-fields-at-requires
-fields-at-requires c κs = omega (arith, size c)
+fields-at-requires c κs = search needs
 
 opcode-of-requires : tie.Need-opcode-of-requires
 opcode-of-requires c κs = search needs
@@ -71,7 +76,7 @@ returns-3 c = simp (is-sized (c .before .before .before .before .before .before 
 
 returns-4 : tie.Need-returns-4
 unfolding instructionAt
-returns-4 c = simp (sym (c .before .sized .ensures) ∙ c .if1 .left)
+returns-4 c = simp (sym (c .before .sized .ensures ∙ sized-there _ _ _ (c .before .before .before .pre)) ∙ c .if1 .left)
 
 pub instruction-at-spec : {M : Type 1} → statement M
 instruction-at-spec =

@@ -16,7 +16,7 @@ get-u32-requires c κs = search needs
 returns : tie.Need-returns
 unfolding ofRecordIn idAfterIn atEndIn
 returns c =
-    let s = c .before .before .before in
+    let s = c .before .before .before .before in
     let three = eq-eqb (s .args .kind) 3 (c .before .if1 .taken) in
     record {
       takes = rw three (nothing (s .pre .0));
@@ -32,7 +32,7 @@ with-instruction-requires c κs = search needs
 returns-2 : tie.Need-returns-2
 unfolding ofRecordIn idAfterIn atEndIn
 returns-2 c =
-    let s = c .before .before .before .before .before .before in
+    let s = c .before .before .before .before .before .before .before in
     let three = ne-eqb (s .args .kind) 3 (c .before .before .before .before .if1 .left) in
     let four = eq-eqb (s .args .kind) 4 (c .before .before .before .if2 .taken) in
     record {
@@ -52,7 +52,7 @@ mul-ids c = search needs
 element-write-ids : tie.Need-element-write-ids
 unfolding atEndIn
 element-write-ids c =
-    let s = c .before .before .before .before .before .before in
+    let s = c .before .before .before .before .before .before .before in
     let room = rw (ne-eqb (s .args .kind) 3 (c .before .before .before .before .if1 .left), ne-eqb (s .args .kind) 4 (c .before .before .before .if2 .left)) at (s .pre .1 .0) in
     omega arith
 
@@ -65,7 +65,7 @@ mul-endings c = search needs
 element-write-endings : tie.Need-element-write-endings
 unfolding atEndIn
 element-write-endings c =
-    let s = c .before .before .before .before .before .before in
+    let s = c .before .before .before .before .before .before .before in
     let room = rw (ne-eqb (s .args .kind) 3 (c .before .before .before .before .if1 .left), ne-eqb (s .args .kind) 4 (c .before .before .before .if2 .left)) at (s .pre .1 .0) in
     omega arith
 
@@ -75,7 +75,7 @@ add-t20 c = search needs
 returns-3 : tie.Need-returns-3
 unfolding ofRecordIn idAfterIn atEndIn
 returns-3 c =
-    let s = c .before .before .before .before .before .before in
+    let s = c .before .before .before .before .before .before .before in
     let three = ne-eqb (s .args .kind) 3 (c .before .before .before .before .if1 .left) in
     let four = ne-eqb (s .args .kind) 4 (c .before .before .before .if2 .left) in
     record {

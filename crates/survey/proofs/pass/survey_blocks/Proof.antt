@@ -29,11 +29,11 @@ answer-requires c κs = search needs
 
 returns : tie.Need-returns Inv-loop μ-loop
 returns c =
-    let p = c .before .before .before in
+    let p = c .before .before .before .before in
     let s = p .before .before .before .before in
     let k = p .before .loop .inv in
     let q = p .peek .ensures in
-    let z = c .before .if1 .taken in
+    let z = c .before .before .if1 .taken in
     (c .answer .ensures ∙ end-answer k _ q z (s .args .found), (end-variables k _ q z (s .pre .1), (end-ids k _ q z, end-endings k _ q z)))
 
 on-record-requires : tie.Need-on-record-requires Inv-loop μ-loop

@@ -2,7 +2,7 @@
 use mathlib.Core.Path.{refl, sym}
 use borrow.Author.Needs.{needs}
 use Rattle.survey.proofs.Bounds.{blocks-count}
-use Rattle.tracepoint.specs.Inner.{contextOf}
+use Rattle.passes.specs.Inner.{contextOf}
 use Rattle.tracepoint.proofs.Compiling.{when-faulty, edges-size, when-no-target, when-too-far, ready, when-lands}
 use Rattle.tracepoint.proofs.compile.compile_linked.Statement.{statement}
 use Rattle.tracepoint.proofs.compile.compile_linked.Tie as tie

@@ -4,7 +4,7 @@ use borrow.Author.Needs.{needs}
 use lib.ListN.{replicate}
 use Rattle.survey.proofs.Bounds.{blocks-count}
 use Rattle.survey.proofs.Sorted.{all-fits}
-use Rattle.tracepoint.proofs.Tables.{linked}
+use Rattle.passes.proofs.Tables.{linked}
 use Rattle.tracepoint.proofs.Compiling.{same-answers, tables-lowering}
 use Rattle.tracepoint.proofs.compile.compile_surveyed.Statement.{statement}
 use Rattle.tracepoint.proofs.compile.compile_surveyed.Tie as tie
@@ -13,7 +13,7 @@ put-hints-requires : tie.Need-put-hints-requires
 put-hints-requires c κs = search needs
 
 note-blocks-requires : tie.Need-note-blocks-requires
-note-blocks-requires c κs = let p = c .before .before .before .before .before .before .before .before .before .before .pre in (p .read, (all-fits _ _ (p .collects), refl))
+note-blocks-requires c κs = let p = c .before .before .before .before .before .before .before .before .before .before .pre in (p .read, (all-fits _ _ (p .collects), p .endings, refl))
 
 cast-n : tie.Need-cast-n
 cast-n c = search needs

@@ -1,5 +1,5 @@
 -- `count_of` counts the targets of a terminator.
-use Rattle.tracepoint.specs.Notes.{countOf}
+use Rattle.passes.specs.Notes.{countOf}
 use borrow.Author.Needs.{needs}
 use Rattle.tracepoint.proofs.context.count_of.Statement.{statement}
 use Rattle.tracepoint.proofs.context.count_of.Tie as tie

@@ -1,5 +1,5 @@
 -- `first_target` is where a jump goes, and a branch whose condition holds.
-use Rattle.tracepoint.specs.Notes.{firstTarget}
+use Rattle.passes.specs.Notes.{firstTarget}
 use borrow.Author.Needs.{needs}
 use Rattle.tracepoint.proofs.context.first_target.Statement.{statement}
 use Rattle.tracepoint.proofs.context.first_target.Tie as tie

@@ -2,7 +2,7 @@
 use borrow.Author.Tests.{lt-ltb, le-ltb}
 use borrow.Author.Needs.{needs}
 use Rattle.jumps.specs.Landed.{marked}
-use Rattle.tracepoint.specs.Inner.{conditionAt}
+use Rattle.passes.specs.Inner.{conditionAt}
 use Rattle.tracepoint.proofs.context.is_condition.Statement.{statement}
 use Rattle.tracepoint.proofs.context.is_condition.Tie as tie
 

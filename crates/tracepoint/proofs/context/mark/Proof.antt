@@ -1,7 +1,7 @@
 -- `mark` sets the mark at the variable's index, and none where it has no index.
 use borrow.Author.Tests.{lt-ltb, le-ltb}
 use borrow.Author.Needs.{needs}
-use Rattle.tracepoint.specs.Inner.{markAt}
+use Rattle.passes.specs.Inner.{markAt}
 use Rattle.tracepoint.proofs.context.mark.Statement.{statement}
 use Rattle.tracepoint.proofs.context.mark.Tie as tie
 

@@ -1,6 +1,6 @@
 -- `mark_condition` marks the variable of a branch.
 use mathlib.Core.Path.{_∙_}
-use Rattle.tracepoint.specs.Notes.{marksOn, marksAfter}
+use Rattle.passes.specs.Notes.{marksOn, marksAfter}
 use borrow.Author.Needs.{needs}
 use Rattle.tracepoint.proofs.context.mark_condition.Statement.{statement}
 use Rattle.tracepoint.proofs.context.mark_condition.Tie as tie

@@ -1,48 +1,45 @@
--- `note_blocks` goes over the records; what is left of them always leads to the same end.
+-- `note_blocks` goes over the blocks; what is left of them always leads to the same end.
 use Prim.Native.Nat.{_-_}
 use native.Mathlib.Omega.{arith}
 use borrow.Author.Needs.{needs}
-use lib.ListN.{length}
-use Rattle.unitfile.specs.Unit.{firstBlock}
 use Rattle.unitfile.proofs.Units.{unit-of}
-use Rattle.tracepoint.proofs.Steps.{meets, passes}
-use Rattle.tracepoint.proofs.Noting.{Noting, start, has-room, on-record, at-end}
+use Rattle.passes.proofs.Closings.{closings-at}
+use Rattle.passes.proofs.Noting.{Noting, start, on-block, at-end}
 use Rattle.tracepoint.proofs.context.note_blocks.Statement.{statement}
 use Rattle.tracepoint.proofs.context.note_blocks.Tie as tie
 
 abbrev Inv-loop : tie.InvT-loop
-Inv-loop unit variables hints marks₀ counts₀ targets₀ c₀ k₀ marks counts targets c k = Noting unit variables marks₀ counts₀ targets₀ marks counts targets c k
+Inv-loop unit variables hints endings marks₀ counts₀ targets₀ n k₀ marks counts targets k = Noting unit endings variables hints marks₀ counts₀ targets₀ marks counts targets n k
 
 abbrev μ-loop : tie.MeasureT-loop
-μ-loop unit variables hints marks₀ counts₀ targets₀ c₀ k₀ marks counts targets c k = length unit - c .at
+μ-loop unit variables hints endings marks₀ counts₀ targets₀ n k₀ marks counts targets k = n - k
+
+cast-n : tie.Need-cast-n Inv-loop μ-loop
+cast-n c = search needs
 
 loop-holds : tie.Need-loop-holds Inv-loop μ-loop
-unfolding firstBlock
-loop-holds c =
-    let s = c .before .before .before in
-    start (s .args .unit .now) (s .args .found) _ _ _ _ (s .pre .0) (s .pre .1 .1)
+loop-holds c = start _ _ _ _ _ _ _ _
 
-peek-requires : tie.Need-peek-requires Inv-loop μ-loop
-peek-requires c κs = search needs
+mul-note : tie.Need-mul-note Inv-loop μ-loop
+mul-note c = omega (arith, unit-of _ _ (c .before .before .before .before .before .before .before .before .before .pre .0) .bounds .blocks)
 
-returns : tie.Need-returns Inv-loop μ-loop
-returns c = at-end (c .before .before .before .loop .inv) (c .before .before .peek .ensures) (c .if1 .taken)
+element-copy-out-note : tie.Need-element-copy-out-note Inv-loop μ-loop
+element-copy-out-note c = omega (arith, unit-of _ _ (c .before .before .before .before .before .before .before .before .before .pre .0) .bounds .blocks)
 
-on-record-requires : tie.Need-on-record-requires Inv-loop μ-loop
-on-record-requires c κs =
-    let s = c .before .before .before .before .before .before .before .before .before .before in
-    let l = c .before .before .before .before .before .before .loop in
-    let m = meets (l .inv .goes) (c .before .before .before .before .before .peek .ensures) (c .before .before .before .if1 .left) in
-    let o = passes m in
-    (s .pre .1 .0 .few, omega (arith, unit-of _ _ (s .pre .0) .short), has-room (l .inv) m)
+note-requires : tie.Need-note-requires Inv-loop μ-loop
+note-requires c κs = (c .before .before .before .before .before .before .before .before .before .before .pre .1 .0 .few, omega (arith, unit-of _ _ (c .before .before .before .before .before .before .before .before .before .before .pre .0) .bounds .blocks))
+
+add-k : tie.Need-add-k Inv-loop μ-loop
+add-k c = omega (arith, unit-of _ _ (c .before .before .before .before .before .before .before .before .before .before .before .pre .0) .bounds .blocks)
 
 loop-less : tie.Need-loop-less Inv-loop μ-loop
-loop-less c = let o = passes (meets (c .before .before .before .before .before .before .before .before .loop .inv .goes) (c .before .before .before .before .before .before .before .peek .ensures) (c .before .before .before .before .before .if1 .left)) in omega arith
+loop-less c = omega arith
 
 loop-again : tie.Need-loop-again Inv-loop μ-loop
-loop-again c =
-    let l = c .before .before .before .before .before .before .before .before .loop in
-    on-record (l .inv) (meets (l .inv .goes) (c .before .before .before .before .before .before .before .peek .ensures) (c .before .before .before .before .before .if1 .left)) (c .before .before .before .before .before .before .before .before .before .before .before .before .pre .1 .0) (c .before .on-record .ensures)
+loop-again c = on-block (c .before .before .before .before .before .before .loop .inv) (c .before .before .before .before .before .loop-test .taken) (c .note .ensures)
+
+returns : tie.Need-returns Inv-loop μ-loop
+returns c = let s = c .before .before .before .before .before .before in at-end (c .before .loop .inv) (c .loop-test .left) (closings-at _ (s .args .found) _ (s .pre .0) (s .pre .1 .1)) (s .pre .1 .0) (s .pre .1 .2)
 
 pub note-blocks-spec : {M : Type 1} → statement M
 note-blocks-spec =
@@ -50,9 +47,12 @@ note-blocks-spec =
     (tie.spec
     Inv-loop
     μ-loop
+    cast-n
     loop-holds
-    peek-requires
-    returns
-    on-record-requires
+    mul-note
+    element-copy-out-note
+    note-requires
+    add-k
     loop-less
-    loop-again)
+    loop-again
+    returns)

@@ -1,5 +1,5 @@
 -- `second_target` is where a branch goes whose condition does not hold.
-use Rattle.tracepoint.specs.Notes.{secondTarget}
+use Rattle.passes.specs.Notes.{secondTarget}
 use borrow.Author.Needs.{needs}
 use Rattle.tracepoint.proofs.context.second_target.Statement.{statement}
 use Rattle.tracepoint.proofs.context.second_target.Tie as tie

@@ -7,9 +7,10 @@ use lib.ListN.{length, length-set}
 use Rattle.unitfile.specs.Unit.{firstBlock}
 use Rattle.unitfile.proofs.Units.{unit-of}
 use Rattle.jumps.specs.Landed.{marked}
-use Rattle.tracepoint.specs.Inner.{contextOf}
-use Rattle.tracepoint.proofs.Steps.{meets, passes}
-use Rattle.tracepoint.proofs.Measuring.{Measuring, start, has-room, fits, few, on-record, on-refusal, at-end}
+use Rattle.passes.specs.Inner.{contextOf}
+use Rattle.passes.proofs.Payload.{payload-whole}
+use Rattle.passes.proofs.Steps.{meets, passes}
+use Rattle.passes.proofs.Measuring.{Measuring, start, has-room, fits, few, on-record, on-refusal, at-end}
 use Rattle.tracepoint.proofs.measure.measure.Statement.{statement}
 use Rattle.tracepoint.proofs.measure.measure.Tie as tie
 
@@ -34,29 +35,38 @@ peek-requires c κs = search needs
 returns : tie.Need-returns Inv-loop μ-loop
 returns c = at-end (c .before .before .before .loop .inv) _ refl (c .before .before .peek .ensures) (c .if1 .taken)
 
+add-payload : tie.Need-add-payload Inv-loop μ-loop
+add-payload c = let o = passes (meets (c .before .before .before .before .loop .inv .goes) (c .before .before .before .peek .ensures) (c .before .if1 .left)) in omega (arith, unit-of _ _ (c .before .before .before .before .before .before .before .before .pre .0) .short)
+
+sub-payload : tie.Need-sub-payload Inv-loop μ-loop
+sub-payload c = let o = passes (meets (c .before .before .before .before .loop .inv .goes) (c .before .before .before .peek .ensures) (c .before .if1 .left)) in omega (arith, unit-of _ _ (c .before .before .before .before .before .before .before .before .pre .0) .short)
+
+part-payload-start : tie.Need-part-payload-start Inv-loop μ-loop
+part-payload-start c = let o = passes (meets (c .before .before .before .before .loop .inv .goes) (c .before .before .before .peek .ensures) (c .before .if1 .left)) in omega (arith, unit-of _ _ (c .before .before .before .before .before .before .before .before .pre .0) .short)
+
+part-payload-end : tie.Need-part-payload-end Inv-loop μ-loop
+part-payload-end c = search needs
+
 size-of-record-requires : tie.Need-size-of-record-requires Inv-loop μ-loop
-size-of-record-requires c κs =
-    let s = c .before .before .before .before .before .before .before in
-    let o = passes (meets (c .before .before .before .loop .inv .goes) (c .before .before .peek .ensures) (c .if1 .left)) in
-    (s .pre .1 .0, omega (arith, unit-of _ _ (s .pre .0) .short))
+size-of-record-requires c κs = search needs
 
 enum-known-size : tie.Need-enum-known-size Inv-loop μ-loop
 enum-known-size c = search needs
 
 add-slots : tie.Need-add-slots Inv-loop μ-loop
 add-slots c =
-    let l = c .before .before .before .before .before .before .before .loop in
-    let m = meets (l .inv .goes) (c .before .before .before .before .before .before .peek .ensures) (c .before .before .before .before .if1 .left) in
+    let l = c .before .before .before .before .before .before .before .before .before .loop in
+    let m = meets (l .inv .goes) (c .before .before .before .before .before .before .before .before .peek .ensures) (c .before .before .before .before .before .before .if1 .left) in
     let f = fits (l .inv) m in
-    let z = few (l .inv) m (c .before .before .before .size-of-record .ensures) (c .before .size .given .1) in
+    let z = few (l .inv) m (rw (payload-whole _ _) at (c .before .before .before .size-of-record .ensures)) (c .before .size .given .1) in
     omega arith
 
 add-relocs : tie.Need-add-relocs Inv-loop μ-loop
 add-relocs c =
-    let l = c .before .before .before .before .before .before .before .loop in
-    let m = meets (l .inv .goes) (c .before .before .before .before .before .before .peek .ensures) (c .before .before .before .before .if1 .left) in
+    let l = c .before .before .before .before .before .before .before .before .before .loop in
+    let m = meets (l .inv .goes) (c .before .before .before .before .before .before .before .before .peek .ensures) (c .before .before .before .before .before .before .if1 .left) in
     let f = fits (l .inv) m in
-    let z = few (l .inv) m (c .before .before .before .size-of-record .ensures) (c .before .size .given .1) in
+    let z = few (l .inv) m (rw (payload-whole _ _) at (c .before .before .before .size-of-record .ensures)) (c .before .size .given .1) in
     omega arith
 
 enum-known-size-2 : tie.Need-enum-known-size-2 Inv-loop μ-loop
@@ -64,27 +74,27 @@ enum-known-size-2 c = search needs
 
 returns-2 : tie.Need-returns-2 Inv-loop μ-loop
 returns-2 c =
-    let l = c .before .before .before .before .before .before .before .loop in
-    on-refusal (l .inv) (meets (l .inv .goes) (c .before .before .before .before .before .before .peek .ensures) (c .before .before .before .before .if1 .left)) (c .before .before .before .size-of-record .ensures) (c .before .size2 .given .1)
+    let l = c .before .before .before .before .before .before .before .before .before .loop in
+    on-refusal (l .inv) (meets (l .inv .goes) (c .before .before .before .before .before .before .before .before .peek .ensures) (c .before .before .before .before .before .before .if1 .left)) (rw (payload-whole _ _) at (c .before .before .before .size-of-record .ensures)) (c .before .size2 .given .1)
 
 put-edge-requires : tie.Need-put-edge-requires Inv-loop μ-loop
 put-edge-requires c κs =
-    let l = c .before .before .before .before .before .before .before .before .loop in
-    (has-room (l .inv) (meets (l .inv .goes) (c .before .before .before .before .before .before .before .peek .ensures) (c .before .before .before .before .before .if1 .left)), l .inv .long)
+    let l = c .before .before .before .before .before .before .before .before .before .before .loop in
+    (has-room (l .inv) (meets (l .inv .goes) (c .before .before .before .before .before .before .before .before .before .peek .ensures) (c .before .before .before .before .before .before .before .if1 .left)), l .inv .long)
 
 after-requires : tie.Need-after-requires Inv-loop μ-loop
 after-requires c κs =
-    let l = c .before .before .before .before .before .before .before .before .before .loop in
-    let room = has-room (l .inv) (meets (l .inv .goes) (c .before .before .before .before .before .before .before .before .peek .ensures) (c .before .before .before .before .before .before .if1 .left)) in
-    (omega arith, c .before .before .before .before .before .before .before .before .before .before .before .before .before .pre .1 .1)
+    let l = c .before .before .before .before .before .before .before .before .before .before .before .loop in
+    let room = has-room (l .inv) (meets (l .inv .goes) (c .before .before .before .before .before .before .before .before .before .before .peek .ensures) (c .before .before .before .before .before .before .before .before .if1 .left)) in
+    (omega arith, c .before .before .before .before .before .before .before .before .before .before .before .before .before .before .before .pre .1 .1)
 
 loop-less : tie.Need-loop-less Inv-loop μ-loop
-loop-less c = let o = passes (meets (c .before .before .before .before .before .before .before .before .before .before .before .loop .inv .goes) (c .before .before .before .before .before .before .before .before .before .before .peek .ensures) (c .before .before .before .before .before .before .before .before .if1 .left)) in omega arith
+loop-less c = let o = passes (meets (c .before .before .before .before .before .before .before .before .before .before .before .before .before .loop .inv .goes) (c .before .before .before .before .before .before .before .before .before .before .before .before .peek .ensures) (c .before .before .before .before .before .before .before .before .before .before .if1 .left)) in omega arith
 
 loop-again : tie.Need-loop-again Inv-loop μ-loop
 loop-again c =
-    let l = c .before .before .before .before .before .before .before .before .before .before .before .loop in
-    on-record (l .inv) (meets (l .inv .goes) (c .before .before .before .before .before .before .before .before .before .before .peek .ensures) (c .before .before .before .before .before .before .before .before .if1 .left)) (c .before .before .before .before .before .before .before .size-of-record .ensures) (c .before .before .before .before .before .size .given .1) (c .before .before .put-edge .ensures) (c .before .after .ensures)
+    let l = c .before .before .before .before .before .before .before .before .before .before .before .before .before .loop in
+    on-record (l .inv) (meets (l .inv .goes) (c .before .before .before .before .before .before .before .before .before .before .before .before .peek .ensures) (c .before .before .before .before .before .before .before .before .before .before .if1 .left)) (rw (payload-whole _ _) at (c .before .before .before .before .before .before .before .size-of-record .ensures)) (c .before .before .before .before .before .size .given .1) (c .before .before .put-edge .ensures) (c .before .after .ensures)
 
 pub measure-spec : {M : Type 1} → statement M
 measure-spec =
@@ -96,6 +106,10 @@ measure-spec =
     loop-holds
     peek-requires
     returns
+    add-payload
+    sub-payload
+    part-payload-start
+    part-payload-end
     size-of-record-requires
     enum-known-size
     add-slots

@@ -3,7 +3,7 @@ use native.Mathlib.Omega.{arith}
 use native.Mathlib.Numerals.{add-one}
 use borrow.Author.Tests.{eq-eqb, ne-eqb}
 use borrow.Author.Needs.{needs}
-use Rattle.tracepoint.specs.Seen.{endIn}
+use Rattle.passes.specs.Seen.{endIn}
 use Rattle.tracepoint.proofs.measure.put_edge.Statement.{statement}
 use Rattle.tracepoint.proofs.measure.put_edge.Tie as tie
 

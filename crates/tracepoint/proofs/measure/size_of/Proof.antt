@@ -1,6 +1,6 @@
 -- `size_of` takes an instruction's slots and its relocation from what its lowering answers.
 use borrow.Author.Needs.{needs}
-use Rattle.tracepoint.specs.Tables.{relocsBy, sizeOn, sizeBy}
+use Rattle.passes.specs.Tables.{relocsBy, sizeOn, sizeBy}
 use Rattle.tracepoint.proofs.measure.size_of.Statement.{statement}
 use Rattle.tracepoint.proofs.measure.size_of.Tie as tie
 

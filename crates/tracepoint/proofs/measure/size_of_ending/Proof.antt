@@ -5,8 +5,8 @@ use Rattle.lower.specs.Op.{_▸_, insn, slotsOf}
 use Rattle.lower.specs.Held.{endingOps}
 use Rattle.layout.specs.Layout.{at}
 use Rattle.layout.specs.Inner.{mapsOf}
-use Rattle.tracepoint.specs.Tables.{sizeOf}
-use Rattle.tracepoint.proofs.Measuring.{sized, sized-refused}
+use Rattle.passes.specs.Tables.{sizeOf}
+use Rattle.passes.proofs.Measuring.{sized, sized-refused}
 use borrow.Author.Needs.{needs}
 use Rattle.tracepoint.proofs.measure.size_of_ending.Statement.{statement}
 use Rattle.tracepoint.proofs.measure.size_of_ending.Tie as tie

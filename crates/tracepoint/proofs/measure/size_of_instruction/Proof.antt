@@ -1,13 +1,12 @@
 -- `size_of_instruction` takes the size from what the lowering answers; what it puts is not looked at.
 use borrow.Author.Needs.{needs}
-use Rattle.layout.proofs.Tidy.{tidy-opcode}
-use Rattle.tracepoint.specs.Seen.{instructionBy, ringAfter}
-use Rattle.tracepoint.proofs.Measuring.{sized-held}
+use Rattle.passes.proofs.Measuring.{sized-held}
+use Rattle.passes.proofs.Payload.{tidy-payload, asked-is}
 use Rattle.tracepoint.proofs.measure.size_of_instruction.Statement.{statement}
 use Rattle.tracepoint.proofs.measure.size_of_instruction.Tie as tie
 
-is-condition-requires : tie.Need-is-condition-requires
-is-condition-requires c κs = search needs
+condition-of-requires : tie.Need-condition-of-requires
+condition-of-requires c κs = search needs
 
 slice-aggregate-lower-instruction : tie.Need-slice-aggregate-lower-instruction
 slice-aggregate-lower-instruction c = search needs
@@ -22,16 +21,15 @@ scratch-after-requires : tie.Need-scratch-after-requires
 scratch-after-requires c κs = search needs
 
 returns : tie.Need-returns
-unfolding instructionBy ringAfter
 returns c =
-    rw (← c .before .before .before .before .before .is-condition .ensures)
-    (record { size = sized-held _ (tidy-opcode _ _ _ _ _ _) (c .before .before .before .lower-instruction .ensures .0) (c .before .size-of .ensures); scratch = c .scratch-after .ensures })
+    rw (← asked-is _ _ _ (c .before .before .before .before .before .before .before .before .args .j) _ (c .before .before .before .before .before .condition-of .ensures))
+    (record { size = sized-held _ (tidy-payload _ _ _ _) (c .before .before .before .lower-instruction .ensures .0) (c .before .size-of .ensures); scratch = c .scratch-after .ensures })
 
 pub size-of-instruction-spec : {M : Type 1} → statement M
 size-of-instruction-spec =
     tie.close
     (tie.spec
-    is-condition-requires
+    condition-of-requires
     slice-aggregate-lower-instruction
     lower-instruction-requires
     size-of-requires

@@ -2,7 +2,7 @@
 use native.Mathlib.Numerals.{add-one}
 use borrow.Author.Tests.{eq-eqb, ne-eqb}
 use borrow.Author.Needs.{needs}
-use Rattle.tracepoint.specs.Seen.{stateAfter}
+use Rattle.passes.specs.Seen.{stateAfter}
 use Rattle.tracepoint.proofs.walk.after.Statement.{statement}
 use Rattle.tracepoint.proofs.walk.after.Tie as tie
 

@@ -1,7 +1,7 @@
 -- `jump` holds the distance, which is in range.
 use mir.Syntax.{w16, w64}
 use Rattle.lower.proofs.Range.{cast-fits, cast-is}
-use Rattle.tracepoint.proofs.Put.{narrow}
+use Rattle.passes.proofs.Put.{narrow}
 use borrow.Author.Needs.{needs}
 use Rattle.tracepoint.proofs.write.jump.Statement.{statement}
 use Rattle.tracepoint.proofs.write.jump.Tie as tie

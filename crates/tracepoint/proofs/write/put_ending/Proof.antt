@@ -4,7 +4,7 @@ use Rattle.insn.specs.Form.{opcodeOf}
 use Rattle.lower.specs.Op.{slotsOf, insn, _▸_}
 use Rattle.lower.specs.Held.{endingOps}
 use Rattle.layout.specs.Layout.{at, ops}
-use Rattle.tracepoint.proofs.Put.{jump-reaches, branch-reaches, puts-none, puts-return, puts-jump, puts-branch}
+use Rattle.passes.proofs.Put.{jump-reaches, branch-reaches, puts-none, puts-return, puts-jump, puts-branch}
 use borrow.Author.Needs.{needs}
 use Rattle.tracepoint.proofs.write.put_ending.Statement.{statement}
 use Rattle.tracepoint.proofs.write.put_ending.Tie as tie

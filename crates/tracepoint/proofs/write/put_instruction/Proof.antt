@@ -1,13 +1,12 @@
 -- `put_instruction` lets the lowering put the code, and puts the relocation.
 use borrow.Author.Needs.{needs}
-use Rattle.layout.proofs.Tidy.{tidy-opcode}
-use Rattle.tracepoint.specs.Seen.{instructionBy, ringAfter}
-use Rattle.tracepoint.proofs.Put.{told-room, puts-told}
+use Rattle.passes.proofs.Payload.{tidy-payload, asked-is}
+use Rattle.passes.proofs.Put.{told-room, puts-told}
 use Rattle.tracepoint.proofs.write.put_instruction.Statement.{statement}
 use Rattle.tracepoint.proofs.write.put_instruction.Tie as tie
 
-is-condition-requires : tie.Need-is-condition-requires
-is-condition-requires c κs = search needs
+condition-of-requires : tie.Need-condition-of-requires
+condition-of-requires c κs = search needs
 
 cast-lower-instruction : tie.Need-cast-lower-instruction
 cast-lower-instruction c = search needs
@@ -19,9 +18,8 @@ lower-instruction-requires : tie.Need-lower-instruction-requires
 lower-instruction-requires c κs = search needs
 
 put-relocation-requires : tie.Need-put-relocation-requires
-unfolding instructionBy
 put-relocation-requires c κs =
-    told-room 0 0 _ 0 (tidy-opcode _ _ _ _ _ _) (c .before .before .before .lower-instruction .ensures .0) (rw (← c .before .before .before .before .before .before .before .is-condition .ensures) at (c .before .before .before .before .before .before .before .before .before .before .before .before .pre .1))
+    told-room 0 0 _ 0 (tidy-payload _ _ _ _) (c .before .before .before .lower-instruction .ensures .0) (rw (← asked-is _ _ _ (c .before .before .before .before .before .before .before .before .before .before .before .before .args .j) _ (c .before .before .before .before .before .before .before .condition-of .ensures)) at (c .before .before .before .before .before .before .before .before .before .before .before .before .pre .1))
 
 scratch-after-requires : tie.Need-scratch-after-requires
 scratch-after-requires c κs = search needs
@@ -33,15 +31,14 @@ same-length-2 : tie.Need-same-length-2
 same-length-2 c = search needs
 
 returns : tie.Need-returns
-unfolding instructionBy ringAfter
 returns c =
-    (λ a b. rw (← c .before .before .before .before .before .before .before .before .before .before .before .is-condition .ensures) (puts-told a b _ 0 (tidy-opcode _ _ _ _ _ _) (c .before .before .before .before .before .before .before .lower-instruction .ensures .0) (rw (← c .before .before .before .before .before .before .before .before .before .before .before .is-condition .ensures) at (c .before .before .before .before .before .before .before .before .before .before .before .before .before .before .before .before .pre .1)) (c .before .before .before .before .before .before .before .lower-instruction .ensures .1) (c .before .before .before .put-relocation .ensures)), c .scratch-after .ensures)
+    (λ a b. rw (← asked-is _ _ _ (c .before .before .before .before .before .before .before .before .before .before .before .before .before .before .before .before .args .j) _ (c .before .before .before .before .before .before .before .before .before .before .before .condition-of .ensures)) (puts-told a b _ 0 (tidy-payload _ _ _ _) (c .before .before .before .before .before .before .before .lower-instruction .ensures .0) (rw (← asked-is _ _ _ (c .before .before .before .before .before .before .before .before .before .before .before .before .before .before .before .before .args .j) _ (c .before .before .before .before .before .before .before .before .before .before .before .condition-of .ensures)) at (c .before .before .before .before .before .before .before .before .before .before .before .before .before .before .before .before .pre .1)) (c .before .before .before .before .before .before .before .lower-instruction .ensures .1) (c .before .before .before .put-relocation .ensures)), c .scratch-after .ensures)
 
 pub put-instruction-spec : {M : Type 1} → statement M
 put-instruction-spec =
     tie.close
     (tie.spec
-    is-condition-requires
+    condition-of-requires
     cast-lower-instruction
     mul-lower-instruction
     lower-instruction-requires

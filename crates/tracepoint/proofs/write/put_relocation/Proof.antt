@@ -4,8 +4,8 @@ use native.Mathlib.Omega.{arith}
 use native.Mathlib.Numerals.{add-one}
 use borrow.Author.Needs.{needs}
 use lib.ListN.{length-set}
-use Rattle.tracepoint.specs.Tables.{relocsBy}
-use Rattle.tracepoint.specs.Put.{relocationsBy}
+use Rattle.passes.specs.Tables.{relocsBy}
+use Rattle.passes.specs.Put.{relocationsBy}
 use Rattle.tracepoint.proofs.write.put_relocation.Statement.{statement}
 use Rattle.tracepoint.proofs.write.put_relocation.Tie as tie
 

@@ -13,9 +13,10 @@ use Rattle.layout.specs.Layout.{blocks, ops}
 use Rattle.layout.specs.Code.{insns, codeBytes, relocations}
 use Rattle.layout.specs.Inner.{keepBy}
 use Rattle.jumps.specs.Landed.{marked}
-use Rattle.tracepoint.specs.Inner.{contextOf}
-use Rattle.tracepoint.proofs.Steps.{meets, passes}
-use Rattle.tracepoint.proofs.Writing.{Writing, startsBy, first-room, start, block-room, room-both, written, on-record, code-done, relocs-done, code-whole, relocs-whole}
+use Rattle.passes.specs.Inner.{contextOf}
+use Rattle.passes.proofs.Payload.{payload-whole}
+use Rattle.passes.proofs.Steps.{meets, passes}
+use Rattle.passes.proofs.Writing.{Writing, startsBy, first-room, start, block-room, room-both, written, on-record, code-done, relocs-done, code-whole, relocs-whole}
 use Rattle.tracepoint.proofs.write.write_unit.Statement.{statement}
 use Rattle.tracepoint.proofs.write.write_unit.Tie as tie
 
@@ -61,27 +62,38 @@ returns c =
       relocs-done (l .inv .0) (c .before .before .peek .ensures) (c .if1 .taken) ∙ relocs-whole (s .args .unit .now) (s .args .found) (contextOf (s .args .variables .now) (s .args .hints .now) (s .args .marks .now)) (marked (s .args .emitted .now)) (s .pre .0) (s .pre .1 .1 .0) (s .args .relocs .now),
     )
 
+add-payload : tie.Need-add-payload Inv-loop μ-loop
+add-payload c = let o = passes (meets (c .before .before .before .before .loop .inv .0 .goes) (c .before .before .before .peek .ensures) (c .before .if1 .left)) in omega (arith, unit-of _ _ (c .before .before .before .before .before .before .before .before .before .before .before .before .before .before .pre .0) .short)
+
+sub-payload : tie.Need-sub-payload Inv-loop μ-loop
+sub-payload c = let o = passes (meets (c .before .before .before .before .loop .inv .0 .goes) (c .before .before .before .peek .ensures) (c .before .if1 .left)) in omega (arith, unit-of _ _ (c .before .before .before .before .before .before .before .before .before .before .before .before .before .before .pre .0) .short)
+
+part-payload-start : tie.Need-part-payload-start Inv-loop μ-loop
+part-payload-start c = let o = passes (meets (c .before .before .before .before .loop .inv .0 .goes) (c .before .before .before .peek .ensures) (c .before .if1 .left)) in omega (arith, unit-of _ _ (c .before .before .before .before .before .before .before .before .before .before .before .before .before .before .pre .0) .short)
+
+part-payload-end : tie.Need-part-payload-end Inv-loop μ-loop
+part-payload-end c = search needs
+
 put-record-requires : tie.Need-put-record-requires Inv-loop μ-loop
 put-record-requires c κs =
-    let s = c .before .before .before .before .before .before .before .before .before .before .before .before .before .before .before in
-    let w = c .before .before .before .before .before .loop .inv .0 in
-    let m = meets (w .goes) (c .before .before .before .before .peek .ensures) (c .before .before .if1 .left) in
-    let o = passes m in
-    ((s .pre .1 .0 .0, omega (arith, unit-of _ _ (s .pre .0) .short), s .pre .1 .0 .2, s .pre .1 .0 .3, block-room w m (s .pre .1 .1 .0)), (room-both w m, written w m (s .pre .1 .1 .0) .reach))
+    let s = c .before .before .before .before .before .before .before .before .before .before .before .before .before .before .before .before .before in
+    let w = c .before .before .before .before .before .before .before .loop .inv .0 in
+    let m = meets (w .goes) (c .before .before .before .before .before .before .peek .ensures) (c .before .before .before .before .if1 .left) in
+    ((s .pre .1 .0 .0, s .pre .1 .0 .2, s .pre .1 .0 .3, block-room w m (s .pre .1 .1 .0)), (rw (payload-whole _ _) (room-both w m), rw (payload-whole _ _) (written w m (s .pre .1 .1 .0) .reach)))
 
 after-requires : tie.Need-after-requires Inv-loop μ-loop
 after-requires c κs =
-    let s = c .before .before .before .before .before .before .before .before .before .before .before .before .before .before .before .before .before .before .before .before .before in
-    let w = c .before .before .before .before .before .before .before .before .before .before .before .loop .inv .0 in
-    (omega (arith, block-room w (meets (w .goes) (c .before .before .before .before .before .before .before .before .before .before .peek .ensures) (c .before .before .before .before .before .before .before .before .if1 .left)) (s .pre .1 .1 .0)), s .pre .1 .0 .1)
+    let s = c .before .before .before .before .before .before .before .before .before .before .before .before .before .before .before .before .before .before .before .before .before .before .before in
+    let w = c .before .before .before .before .before .before .before .before .before .before .before .before .before .loop .inv .0 in
+    (omega (arith, block-room w (meets (w .goes) (c .before .before .before .before .before .before .before .before .before .before .before .before .peek .ensures) (c .before .before .before .before .before .before .before .before .before .before .if1 .left)) (s .pre .1 .1 .0)), s .pre .1 .0 .1)
 
 loop-less : tie.Need-loop-less Inv-loop μ-loop
-loop-less c = let o = passes (meets (c .before .before .before .before .before .before .before .before .before .before .before .before .before .loop .inv .0 .goes) (c .before .before .before .before .before .before .before .before .before .before .before .before .peek .ensures) (c .before .before .before .before .before .before .before .before .before .before .if1 .left)) in omega arith
+loop-less c = let o = passes (meets (c .before .before .before .before .before .before .before .before .before .before .before .before .before .before .before .loop .inv .0 .goes) (c .before .before .before .before .before .before .before .before .before .before .before .before .before .before .peek .ensures) (c .before .before .before .before .before .before .before .before .before .before .before .before .if1 .left)) in omega arith
 
 loop-again : tie.Need-loop-again Inv-loop μ-loop
 loop-again c =
-    let w = c .before .before .before .before .before .before .before .before .before .before .before .before .before .loop .inv .0 in
-    (on-record w (meets (w .goes) (c .before .before .before .before .before .before .before .before .before .before .before .before .peek .ensures) (c .before .before .before .before .before .before .before .before .before .before .if1 .left)) (c .before .before .before .before .before .before .before .before .before .before .before .before .before .before .before .before .before .before .before .before .before .before .before .pre .1 .1 .0) (c .before .before .before .before .before .before .before .put-record .ensures .0) (c .before .before .before .before .before .before .before .put-record .ensures .1) (c .before .after .ensures), omega arith, omega arith)
+    let w = c .before .before .before .before .before .before .before .before .before .before .before .before .before .before .before .loop .inv .0 in
+    (on-record w (meets (w .goes) (c .before .before .before .before .before .before .before .before .before .before .before .before .before .before .peek .ensures) (c .before .before .before .before .before .before .before .before .before .before .before .before .if1 .left)) (c .before .before .before .before .before .before .before .before .before .before .before .before .before .before .before .before .before .before .before .before .before .before .before .before .before .pre .1 .1 .0) (rw (payload-whole _ _) at (c .before .before .before .before .before .before .before .put-record .ensures .0)) (rw (payload-whole _ _) at (c .before .before .before .before .before .before .before .put-record .ensures .1)) (c .before .after .ensures), omega arith, omega arith)
 
 pub write-unit-spec : {M : Type 1} → statement M
 write-unit-spec =
@@ -95,6 +107,10 @@ write-unit-spec =
     same-length
     same-length-2
     returns
+    add-payload
+    sub-payload
+    part-payload-start
+    part-payload-end
     put-record-requires
     after-requires
     loop-less

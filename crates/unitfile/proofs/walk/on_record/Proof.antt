@@ -18,13 +18,16 @@ returns : tie.Need-returns
 unfolding onRecord faultOf
 returns c = simp (c .fault .ensures, c .before .enum-told .given .1)
 
-moved-requires : tie.Need-moved-requires
-moved-requires c κs = search needs
+kind-requires : tie.Need-kind-requires
+kind-requires c κs = search needs
+
+after-requires : tie.Need-after-requires
+after-requires c κs = search needs
 
 returns-2 : tie.Need-returns-2
 unfolding onRecord
-returns-2 c = simp (c .moved .ensures, c .before .before .read .given .1)
+returns-2 c = simp (c .after .ensures, c .before .kind .ensures, c .before .before .before .read .given .1)
 
 pub on-record-spec : {M : Type 1} → statement M
 on-record-spec =
-    tie.close (tie.spec enum-known-read enum-told fault-requires returns moved-requires returns-2)
+    tie.close (tie.spec enum-known-read enum-told fault-requires returns kind-requires after-requires returns-2)

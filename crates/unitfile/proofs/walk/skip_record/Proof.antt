@@ -1,10 +1,9 @@
 -- `skip_record` checks what is due at the cursor: inside a block, outside it, or at the end.
-use mathlib.Core.Path.{_∙_}
 use borrow.Author.Needs.{needs}
 use borrow.Author.Tests.{eq-eqb, ne-eqb}
 use Rattle.unitfile.specs.Inner.{skipOf}
 use Rattle.unitfile.specs.Records.{nextRecord}
-use Rattle.unitfile.proofs.Skips.{skip-inside, skip-outside}
+use Rattle.unitfile.proofs.Skips.{skip-on}
 use Rattle.unitfile.proofs.walk.skip_record.Statement.{statement}
 use Rattle.unitfile.proofs.walk.skip_record.Tie as tie
 
@@ -16,7 +15,7 @@ on-checked-requires c κs = search needs
 
 returns : tie.Need-returns
 unfolding nextRecord
-returns c = simp (c .on-checked .ensures, c .before .check-record .ensures, c .before .before .if1 .taken) (skip-inside _ _ _ (c .before .before .if1 .taken))
+returns c = simp (c .on-checked .ensures, c .before .check-record .ensures, c .before .before .if1 .taken) (skip-on _ _)
 
 returns-2 : tie.Need-returns-2
 unfolding nextRecord skipOf
@@ -34,7 +33,7 @@ on-checked-requires-2 c κs = search needs
 
 returns-4 : tie.Need-returns-4
 unfolding nextRecord
-returns-4 c = simp (c .on-checked2 .ensures, c .before .check-record2 .ensures, c .before .before .before .before .if1 .left, ne-eqb _ _ (c .before .before .if2 .left)) (skip-outside _ _ _)
+returns-4 c = simp (c .on-checked2 .ensures, c .before .check-record2 .ensures, c .before .before .before .before .if1 .left, ne-eqb _ _ (c .before .before .if2 .left)) (skip-on _ _)
 
 pub skip-record-spec : {M : Type 1} → statement M
 skip-record-spec =

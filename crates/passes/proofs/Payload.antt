@@ -1,0 +1,126 @@
+-- A record's payload as a part of the unit: what stands in it is what stands in the unit after the record's place.
+use mathlib.Core.Path.{_≡_, refl, sym, ap, _∙_}
+use mathlib.Core.Bool.{Bool, true, false}
+use mathlib.Core.List.{List, [], _∷_}
+use Prim.Native.Nat.{ℕ, zero, suc, _+_, _-_}
+use native.Mathlib.Nat.{add-zero}
+use native.Mathlib.Omega.{arith}
+use lib.Dec.{eqb}
+use lib.ListN.{length, take, drop, length-drop}
+use lib.Seq.{take-all}
+use mir.Syntax.{w32, w64}
+use Rattle.wire.specs.Le.{byteAt, unsignedAt}
+use Rattle.wire.specs.Pick.{pick}
+use Rattle.ir.specs.Operands.{listOf}
+use Rattle.ir.specs.declared.Operand.{Operand}
+use Rattle.ir.specs.declared.Instruction.{Instruction}
+use Rattle.ir.specs.declared.Opcode.{Opcode}
+use Rattle.opcode.specs.Opcode.{opcodeIn}
+use Rattle.opcode.specs.declared.Fields.{Fields}
+use Rattle.operand.specs.Operand.{operandIn, operandsIn}
+use Rattle.record.specs.Instruction.{fieldsAt, countAt}
+use Rattle.peek.specs.Terminator.{terminatorIn}
+use Rattle.record.specs.declared.Record.the-variants as R
+use Rattle.unitfile.specs.Records.{nextRecord}
+use Rattle.unitfile.specs.declared.Cursor.{Cursor}
+use Rattle.unitfile.specs.declared.Step.the-variants.{Go}
+use Rattle.unitfile.proofs.Choice.{pick-ind}
+use Rattle.peek.proofs.Peeking.{instruction-in}
+use Rattle.frame.specs.Cell.{Frame}
+use Rattle.frame.specs.Hint.{indexBy, frameBy}
+use Rattle.lower.specs.Instruction.{opcode, instruction, scratchAfter}
+use Rattle.lower.specs.Payload.{operandsOf, instructionIn, scratchIn}
+use Rattle.layout.proofs.Tidy.{Tidy, tidy-opcode}
+use Rattle.passes.specs.Inner.{conditionAt, contextOf}
+use Rattle.passes.specs.Seen.{payloadAt, asked, instructionBy}
+use Rattle.passes.proofs.Part.{byte-drop, unsigned-drop, signed-drop, unsigned-first}
+
+-- the payload as the code lends it: the part from there to the unit's end
+pub payload-whole : (b : List ℕ) (place : ℕ) → take (length b - (place + 4)) (payloadAt b place) ≡ payloadAt b place
+payload-whole b place = take-all (length b - (place + 4)) (drop (place + 4) b) (simp length-drop (omega arith))
+
+-- ---- operands, fields, terminators
+
+module _ (b : List ℕ) (k : ℕ) where
+  operand-drop : (i : ℕ) → operandIn (drop k b) i ≡ operandIn b (k + i)
+  unfolding operandIn
+  operand-drop i =
+      let z : k + (i + 1) ≡ k + i + 1 = omega arith in
+      rw (byte-drop b k i, signed-drop b k (i + 1) w64, unsigned-drop b k (i + 1) w32, z)
+
+  operands-drop : (i n : ℕ) → operandsIn (drop k b) i n ≡ operandsIn b (k + i) n
+  unfolding operandsIn
+  operands-drop i zero = refl
+  operands-drop i (suc n) =
+      let z : k + (i + 9) ≡ k + i + 9 = omega arith in
+      rw (operand-drop i, operands-drop (i + 9) n, z)
+
+  fields-drop : fieldsAt (drop k b) 0 ≡ fieldsAt b k
+  unfolding fieldsAt
+  fields-drop = rw (byte-drop b k 4, byte-drop b k 5, signed-drop b k 8 w32, unsigned-drop b k 12 w32)
+
+  pub terminator-drop : terminatorIn (drop k b) 0 ≡ terminatorIn b k
+  unfolding terminatorIn
+  terminator-drop = rw (byte-drop b k 0, add-zero k, operand-drop 1, unsigned-drop b k 1 w32, unsigned-drop b k 10 w32, unsigned-drop b k 14 w32)
+
+-- ---- an instruction that was read
+
+module _ (b : List ℕ) (maps : ℕ) (u d : Cursor) (i : Instruction) (e : nextRecord b maps u ≡ Go (R.Instruction i) d) where
+  abbrev p : List ℕ
+  p = payloadAt b (u .at)
+
+  pub result-is : unsignedAt w32 p 0 ≡ i .result
+  result-is = unsigned-first w32 b (u .at + 4) ∙ sym (instruction-in b maps u d i e .result)
+
+  opcode-is : opcodeIn (fieldsAt p 0) ≡ i .opcode
+  opcode-is = ap opcodeIn (fields-drop b (u .at + 4)) ∙ sym (instruction-in b maps u d i e .opcode)
+
+  operands-are : operandsOf p ≡ listOf (i .operands)
+  unfolding operandsOf countAt
+  operands-are =
+      let z : u .at + 4 + 16 ≡ u .at + 20 = omega arith in
+      operands-drop b (u .at + 4) 16 _ ∙ rw (byte-drop b (u .at + 4) 6, z) (sym (instruction-in b maps u d i e .list))
+
+  pub instruction-is : (f : Frame) (j : ℕ) (t : Bool) → instructionIn f j t p ≡ instruction f j t i
+  unfolding instructionIn instruction
+  instruction-is f j t = rw (result-is, opcode-is, operands-are)
+
+  pub scratch-is : (j : ℕ) → scratchIn j p ≡ scratchAfter j i
+  unfolding scratchIn scratchAfter
+  scratch-is j = rw (opcode-is, operands-are)
+
+-- ---- what any payload becomes
+
+pub tidy-payload : (f : Frame) (j : ℕ) (t : Bool) (p : List ℕ) → Tidy 11 (instructionIn f j t p)
+unfolding instructionIn
+tidy-payload f j t p = tidy-opcode f j t _ _ _
+
+-- only a NullCheck goes by the condition
+module _ (f : Frame) (j : ℕ) (t u : Bool) (result : ℕ) (os : List Operand) where
+  abbrev Same : Opcode → Type 0
+  Same o = opcode f j t result o os ≡ opcode f j u result o os
+
+  same-opcode : (x : Fields) → eqb (x .code) 7 ≡ false → Same (opcodeIn x)
+  unfolding opcodeIn opcode
+  same-opcode x other =
+      pick-ind Same (eqb (x .code) 1) _ _ (λ _. refl)
+      (λ _. pick-ind Same (eqb (x .code) 2) _ _ (λ _. refl)
+      (λ _. pick-ind Same (eqb (x .code) 3) _ _ (λ _. refl)
+      (λ _. pick-ind Same (eqb (x .code) 4) _ _ (λ _. refl)
+      (λ _. pick-ind Same (eqb (x .code) 5) _ _ (λ _. refl)
+      (λ _. pick-ind Same (eqb (x .code) 6) _ _ (λ _. refl)
+      (λ _. pick-ind Same (eqb (x .code) 7) _ _ (λ e. let z : _≡_ {A = ℕ} 0 1 = cc in absurd (omega arith))
+      (λ _. pick-ind Same (eqb (x .code) 8) _ _ (λ _. refl)
+      (λ _. pick-ind Same (eqb (x .code) 9) _ _ (λ _. refl)
+      (λ _. pick-ind Same (eqb (x .code) 10) _ _ (λ _. refl)
+      (λ _. pick-ind Same (eqb (x .code) 11) _ _ (λ _. refl)
+      (λ _. pick-ind Same (eqb (x .code) 12) _ _ (λ _. refl) (λ _. refl))))))))))))
+
+asked-by : (f : Frame) (j : ℕ) (t : Bool) (p : List ℕ) (s : Bool) → eqb (byteAt p 4) 7 ≡ s → instructionIn f j (pick s t false) p ≡ instructionIn f j t p
+unfolding instructionIn fieldsAt
+asked-by f j t p true e = refl
+asked-by f j t p false e = same-opcode f j false t _ _ (fieldsAt p 0) e
+
+pub asked-is : (vs hs ms : List ℕ) (j : ℕ) (p : List ℕ) {t : Bool} → t ≡ asked p (conditionAt vs ms (indexBy vs hs (unsignedAt w32 p 0))) → instructionIn (frameBy vs hs) j t p ≡ instructionBy (contextOf vs hs ms) j p
+unfolding asked instructionBy
+asked-is vs hs ms j p e = ap (λ (t : Bool). instructionIn (frameBy vs hs) j t p) e ∙ asked-by (frameBy vs hs) j _ p (eqb (byteAt p 4) 7) refl

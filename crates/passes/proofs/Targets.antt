@@ -1,0 +1,211 @@
+-- Where the jumps of a record go: its code with the slots that the tables tell is its code by the emitted blocks, and every distance is in range.
+use mathlib.Core.Path.{_≡_, refl, sym, ap, _∙_}
+use mathlib.Core.Bool.{Bool, true, false}
+use mathlib.Core.List.{List, [], _∷_, _++_}
+use mathlib.Core.Logic.{⊎-elim}
+use Prim.Native.Nat.{ℕ, suc, _+_, _*_, _<_}
+use native.Mathlib.Nat.{zero-add}
+use native.Mathlib.Omega.{arith}
+use lib.IntN.{ℤ, pos}
+use lib.ListN.{length, getD}
+use Rattle.wire.specs.Pick.{pick}
+use Rattle.ir.specs.declared.Operand.{Operand}
+use Rattle.ir.specs.declared.Operand.the-variants.{Var, Immediate}
+use Rattle.ir.specs.declared.Terminator.{Terminator}
+use Rattle.ir.specs.declared.Terminator.the-variants as T
+use Rattle.insn.specs.declared.Insn.{Insn}
+use Rattle.insn.specs.declared.form.Form.{Form}
+use Rattle.insn.specs.declared.form.Form.the-variants.{Exit}
+use Rattle.record.specs.declared.Record.{Record}
+use Rattle.record.specs.declared.Record.the-variants as R
+use Rattle.unitfile.specs.Unit.{BasicBlock}
+use Rattle.frame.specs.Cell.{Frame}
+use Rattle.frame.specs.declared.Cell.{Cell}
+use Rattle.frame.specs.declared.Cell.the-variants.{At, Missing}
+use Rattle.flow.specs.Computed.{isReached}
+use Rattle.flow.specs.Linked.{numberFrom}
+use Rattle.flow.proofs.Numbers.{Here, number-law}
+use Rattle.survey.specs.Surveyed.{ids}
+use Rattle.survey.proofs.Flat.{ids-count}
+use Rattle.lower.specs.Op.{Op, plain, ja, jne, Lowered, becomes, refused, insn, _▸_}
+use Rattle.lower.specs.Operand.{fits16, fits32, constant, onCell, load}
+use Rattle.lower.specs.Terminator.{terminator}
+use Rattle.lower.specs.Step.{mapOps}
+use Rattle.lower.specs.declared.Reason.{Reason}
+use Rattle.lower.specs.declared.MapUse.the-variants as U
+use Rattle.lower.specs.Put.{wideInsn, zeroInsn}
+use Rattle.layout.specs.Emitted.{nodes}
+use Rattle.layout.specs.Layout.{Context, laid, at, ops}
+use Rattle.layout.specs.Jumps.{Start, starts, Target, to, nowhere, lastStart, distance, Jump, jas, jnes, patches, Landing, lands, noTarget, tooFar, onTarget, orRest, landing}
+use Rattle.layout.specs.Code.{distanceTo, insns}
+use Rattle.layout.specs.Inner as layout
+use Rattle.layout.specs.Inner.{keepBy, plainOps}
+use Rattle.layout.proofs.Tidy.{Tidy, tidy-instruction}
+use Rattle.layout.proofs.Located.{located}
+use Rattle.passes.specs.Inner.{becoming, recordOps, jumping, recordJumps}
+use Rattle.passes.specs.Notes.{firstTarget, secondTarget, pairsOf}
+use Rattle.passes.specs.Tables.{Tables}
+use Rattle.passes.specs.Put.{slotTo, insnsTo, reaches}
+use Rattle.passes.specs.declared.State.{State}
+use Rattle.passes.proofs.Put.{plain-to}
+
+-- ---- jumps that land
+
+lands-both : (x y : Landing) → orRest x y ≡ lands → (x ≡ lands) × (y ≡ lands)
+unfolding orRest
+lands-both lands y e = (refl, e)
+lands-both (noTarget p i) y e = let z : _≡_ {A = ℕ} 0 1 = cc in absurd (omega arith)
+lands-both (tooFar p i) y e = let z : _≡_ {A = ℕ} 0 1 = cc in absurd (omega arith)
+
+pub landing-append : (xs : List Start) (a b : List Jump) → landing xs (a ++ b) ≡ lands → (landing xs a ≡ lands) × (landing xs b ≡ lands)
+unfolding landing orRest
+landing-append xs [] b e = (refl, e)
+landing-append xs (j ∷ a) b e =
+    let x = lands-both (onTarget j (lastStart xs (j .id))) (landing xs (a ++ b)) e in
+    let y = landing-append xs a b (x .1) in
+    (ap (λ (l : Landing). orRest l (landing xs a)) (x .0) ∙ y .0, y .1)
+
+-- a jump to an id goes to slot a, or nowhere
+pub record Leads (xs : List Start) (id a : ℕ) : Type 0 where
+  pub flag : Bool
+  pub is : lastStart xs id ≡ pick flag (to a) nowhere
+
+in-range : (t : Bool) (p i : ℕ) → pick t lands (tooFar p i) ≡ lands → t ≡ true
+in-range true p i e = refl
+in-range false p i e = let z : _≡_ {A = ℕ} 0 1 = cc in absurd (omega arith)
+
+-- where it lands, it goes to a, and that is in range
+pub record Lands (l : Target) (a own : ℕ) : Type 0 where
+  pub is : l ≡ to a
+  pub near : fits16 (distance a own) ≡ true
+
+lands-by : (t : Bool) (j : Jump) (a : ℕ) (l : Target) → l ≡ pick t (to a) nowhere → onTarget j l ≡ lands → Lands l a (j .own)
+unfolding onTarget
+lands-by true j a l e h = record { is = e; near = in-range (fits16 (distance a (j .own))) _ _ (ap (onTarget j) (sym e) ∙ h) }
+lands-by false j a l e h = let y = ap (onTarget j) (sym e) ∙ h in let z : _≡_ {A = ℕ} 0 1 = cc in absurd (omega arith)
+
+-- ---- operations whose code is told by the slots a and b
+
+pub record Written (xs : List Start) (a b s : ℕ) (l : List Op) : Type 0 where
+  pub code : insnsTo a b s l ≡ insns xs s l
+  pub reach : reaches a b s l ≡ true
+
+module _ (xs : List Start) (a b : ℕ) where
+  plain-insns : (s : ℕ) (is : List Insn) → insns xs s (plainOps is) ≡ is
+  unfolding insns plainOps
+  plain-insns s [] = refl
+  plain-insns s (i ∷ is) = ap (λ (l : List Insn). i ∷ l) (plain-insns (suc s) is)
+
+  plain-reaches : (s : ℕ) (is : List Insn) → reaches a b s (plainOps is) ≡ true
+  unfolding reaches plainOps
+  plain-reaches s [] = refl
+  plain-reaches s (i ∷ is) = plain-reaches (suc s) is
+
+  written-none : (s : ℕ) → Written xs a b s []
+  unfolding insnsTo insns reaches
+  written-none s = record { code = refl; reach = refl }
+
+  written-tidy : (s place : ℕ) {x : Lowered} → Tidy 11 x → Written xs a b s (ops (at place x))
+  unfolding ops at mapOps insnsTo insns reaches wideInsn zeroInsn
+  written-tidy s place (Tidy.some U.Nothing is h) = record { code = plain-to a b s is ∙ sym (plain-insns s is); reach = plain-reaches s is }
+  written-tidy s place (Tidy.some (U.Map m) is h) = record { code = rw (plain-to a b (s + 2) is, plain-insns (s + 2) is); reach = plain-reaches (s + 2) is }
+  written-tidy s place (Tidy.none r) = record { code = refl; reach = refl }
+
+-- ---- a terminator's operations
+
+data One : Lowered → Type 0 where
+  some : (i : Insn) → One (becomes (plain i ∷ []))
+  none : (r : Reason) → One (refused r)
+
+one-insn : (form : Form) (dst src : ℕ) (off imm : ℤ) → One (insn form dst src off imm)
+unfolding insn
+one-insn form dst src off imm = One.some _
+
+one-pick : (t : Bool) {x y : Lowered} → One x → One y → One (pick t x y)
+one-pick true p q = p
+one-pick false p q = q
+
+one-cell : (v : ℕ) (x : Cell) (g : ℤ → Lowered) → ((z : ℤ) → One (g z)) → One (onCell v x g)
+unfolding onCell
+one-cell v (At z) g h = h z
+one-cell v Missing g h = One.none _
+
+one-load : (f : Frame) (r : ℕ) (o : Operand) → One (load f r o)
+unfolding load constant
+one-load f r (Var v) = one-cell v (f .cell v) _ (λ z. one-insn _ _ _ _ _)
+one-load f r (Immediate z) = one-pick (fits32 z) (one-insn _ _ _ _ _) (One.none _)
+
+-- its plain instructions, and its jumps
+data Ends : Terminator → Lowered → Type 0 where
+  return : (o : Operand) (i j : Insn) → Ends (T.Return o) (becomes (plain i ∷ plain j ∷ []))
+  jump : (id : ℕ) → Ends (T.Jump id) (becomes (ja id ∷ []))
+  branch : (o : Operand) (first second : ℕ) (i : Insn) → Ends (T.Branch o first second) (becomes (plain i ∷ jne first ∷ ja second ∷ []))
+  none : (t : Terminator) (r : Reason) → Ends t (refused r)
+
+ends-return : (o : Operand) {x : Lowered} → One x → Ends (T.Return o) (x ▸ insn Exit 0 0 (pos 0) (pos 0))
+unfolding _▸_ insn
+ends-return o (One.some i) = Ends.return o i _
+ends-return o (One.none r) = Ends.none _ r
+
+ends-branch : (o : Operand) (first second : ℕ) {x : Lowered} → One x → Ends (T.Branch o first second) (x ▸ becomes (jne first ∷ ja second ∷ []))
+unfolding _▸_
+ends-branch o first second (One.some i) = Ends.branch o first second i
+ends-branch o first second (One.none r) = Ends.none _ r
+
+ends : (f : Frame) (t : Terminator) → Ends t (terminator f t)
+unfolding terminator
+ends f (T.Return o) = ends-return o (one-load f 0 o)
+ends f (T.Jump id) = Ends.jump id
+ends f (T.Branch o first second) = ends-branch o first second (one-load f 0 o)
+
+module _ (xs : List Start) (a b place s : ℕ) where
+  written-ends : {t : Terminator} {x : Lowered} → Ends t x → Leads xs (firstTarget t) a → Leads xs (secondTarget t) b → landing xs (patches place s (ops (at place x))) ≡ lands → Written xs a b s (ops (at place x))
+  unfolding firstTarget secondTarget ops at patches jas jnes landing orRest insnsTo insns reaches distanceTo
+  written-ends (Ends.return o i j) p q h = record { code = refl; reach = refl }
+  written-ends (Ends.jump id) p q h =
+      let l = lands-by (p .flag) (record { place = place; own = s; id = id }) a _ (p .is) (lands-both _ _ h .0) in
+      record { code = rw (l .is) refl; reach = rw (l .near) refl }
+  written-ends (Ends.branch o first second i) p q h =
+      let u = lands-both _ _ h in
+      let l = lands-by (q .flag) (record { place = place; own = suc (suc s); id = second }) b _ (q .is) (u .0) in
+      let m = lands-by (p .flag) (record { place = place; own = suc s; id = first }) a _ (p .is) (lands-both _ _ (u .1) .0) in
+      record { code = rw (l .is, m .is) refl; reach = rw (l .near, m .near) refl }
+  written-ends (Ends.none t r) p q h = record { code = refl; reach = refl }
+
+  -- ---- a record's
+
+  written-by : (c : Context) (j : ℕ) (t : Bool) (r : Record) → ((u : Terminator) → r ≡ R.Terminator u → Leads xs (firstTarget u) a × Leads xs (secondTarget u) b) → landing xs (pick t (jumping c place s r) []) ≡ lands → Written xs a b s (ops (pick t (becoming c j place r) (laid [])))
+  unfolding jumping becoming ops
+  written-by c j false r p h = written-none xs a b s
+  written-by c j true (R.Head x) p h = written-none xs a b s
+  written-by c j true (R.Map start len) p h = written-none xs a b s
+  written-by c j true (R.Block id) p h = written-none xs a b s
+  written-by c j true (R.Instruction i) p h = written-tidy xs a b s place (tidy-instruction (c .frame) j (c .condition (i .result)) i)
+  written-by c j true (R.Terminator u) p h = let l = p u refl in written-ends (ends (c .frame) u) (l .0) (l .1) h
+
+  pub written-record : (c : Context) (st : State) (r : Record) → ((u : Terminator) → r ≡ R.Terminator u → Leads xs (firstTarget u) a × Leads xs (secondTarget u) b) → landing xs (recordJumps c st place s r) ≡ lands → Written xs a b s (ops (recordOps c st place r))
+  unfolding recordJumps recordOps
+  written-record c st r p h = written-by c (st .scratch) (st .emits) r p h
+
+-- ---- by the tables
+
+module _ {c : Context} {e : ℕ → Bool} {bs : List BasicBlock} {edges numbers : List ℕ} (t : Tables c e bs edges numbers) where
+  module _ (i : ℕ) (h : i < 2 * length bs) where
+    abbrev id : ℕ
+    id = getD (pairsOf bs) i 0
+
+    abbrev number : ℕ
+    number = numberFrom 0 (ids bs) id
+
+    found : lastStart (starts c (keepBy e 0 bs)) id ≡ pick (e number) (to (getD (layout.edges c e 0 0 1 bs) number 0)) nowhere
+    unfolding starts
+    found = located c e (isReached (nodes bs)) 0 1 bs (record { at = λ k l. ap e (zero-add k) ∙ t .agrees k l }) (t .few) (t .past) id
+
+    -- the i-th of all targets
+    pub leads : Leads (starts c (keepBy e 0 bs)) id (slotTo edges numbers i)
+    unfolding slotTo
+    leads =
+        ⊎-elim
+        (λ (x : Here (ids bs) id number). record { flag = e number; is = found ∙ ap (λ (s : ℕ). pick (e number) (to s) nowhere) (sym (t .edge number (omega (arith, x .inside, ids-count bs))) ∙ ap (λ (k : ℕ). getD edges k 0) (sym (t .number i h))) })
+        (λ x. record { flag = false; is = found ∙ ap (λ (f : Bool). pick f (to (getD (layout.edges c e 0 0 1 bs) number 0)) nowhere) (ap e (x .0) ∙ t .past) })
+        (number-law (ids bs) id (omega (arith, ids-count bs, t .few)))

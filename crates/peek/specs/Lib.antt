@@ -1,0 +1,2 @@
+pub mod Peek
+pub mod Terminator

@@ -1,0 +1,4 @@
+pub mod Counts
+pub mod Takes
+pub mod Opcodes
+pub mod Cells
