@@ -2,7 +2,7 @@
 use mathlib.Core.Path.{_≡_, refl, sym, ap, _∙_, subst}
 use mathlib.Core.Logic.{⊎-elim}
 use mathlib.Core.List.{List, [], _∷_}
-use Prim.Native.Nat.{ℕ, zero, suc, _+_, _-_, _*_, _%_, _≤_, _<_}
+use Prim.Native.Nat.{ℕ, zero, suc, _+_, _-_, _*_, _%_, _≤_, _<_, min}
 use native.Mathlib.Nat.{le-of-suc-le-suc, not-suc-le-zero, add-zero}
 use native.Mathlib.Omega.{arith}
 use lib.ListN.{length, getD, take, drop}
@@ -37,17 +37,15 @@ module _ (l : List ℕ) (h : Ascending l) (bound mid : ℕ) (b : mid < length l)
 
 -- ---- the keys, sorted
 
-pub keyed-sorted : (n : ℕ) (ids a : List ℕ) {b c : List ℕ} → n ≤ 1024 → length ids ≡ 1024 → length a ≡ 1024 → b ≡ sets a 0 (keysFrom 0 (take n ids)) → c ≡ sortedFront n b → Keyed n ids c
+pub keyed-sorted : (n : ℕ) (ids a : List ℕ) {b c : List ℕ} → n ≤ 1024 → n ≤ length ids → n ≤ length a → b ≡ sets a 0 (keysFrom 0 (take n ids)) → c ≡ sortedFront (min n 1024) b → Keyed n ids c
 keyed-sorted n ids a {b} {c} h i s e f =
     let v = keysFrom 0 (take n ids) in
     let l : length v ≡ n = keys-length 0 (take n ids) ∙ length-take-le n ids (omega arith) in
     let t : take n b ≡ v = ap (take n) (e ∙ sets-eq v a 0 (omega arith)) ∙ take-at v (drop (0 + length v) a) n l in
-    record {
-      count = h;
-      size = i;
-      room = ap length f ∙ front-length n b ∙ ap length e ∙ length-sets a 0 v ∙ s;
-      sorts = ap (take n) f ∙ front-take n b ∙ ap sorted t;
-    }
+    let m : min n 1024 ≡ n = omega arith in
+    let g : c ≡ sortedFront n b = f ∙ ap (λ (k : ℕ). sortedFront k b) m in
+    let z : length c ≡ length a = ap length g ∙ front-length n b ∙ ap length e ∙ length-sets a 0 v in
+    record { count = h; size = i; room = omega arith; sorts = ap (take n) g ∙ front-take n b ∙ ap sorted t }
 
 -- ---- the search
 
@@ -56,10 +54,10 @@ module _ {n : ℕ} {ids keys : List ℕ} (d : Keyed n ids keys) where
   keyed-ascends = rw (d .sorts) (sorted-ascending (keysFrom 0 (take n ids)))
 
   pub ids-count : length (take n ids) ≡ n
-  ids-count = length-take-le n ids (omega (arith, d .count, d .size))
+  ids-count = length-take-le n ids (d .size)
 
   keys-count : length (take n keys) ≡ n
-  keys-count = length-take-le n keys (omega (arith, d .count, d .room))
+  keys-count = length-take-le n keys (d .room)
 
   -- block j's key is there
   key-in : (j : ℕ) → j < n → Among (getD (take n ids) j 0 * 1024 + j) (take n keys)
@@ -108,6 +106,9 @@ module _ {n : ℕ} {ids keys : List ℕ} (d : Keyed n ids keys) where
           let t = getD-take n keys (past - 1) 0 found-inside in
           let r : getD keys (past - 1) 0 % 1024 ≡ o .0 = omega (arith, o .1, o .2) in
           rw r (o .1, o .2 ∙ ap (λ (x : ℕ). x * 1024 + o .0) (getD-take n ids (o .0) 0 (o .1)))
+
+      pub found-block : found < n
+      found-block = last-key .0
 
       -- a key below the bound is at most that key
       under-last : (k : ℕ) → k < past → getD (take n keys) k 0 ≤ getD (take n keys) (past - 1) 0

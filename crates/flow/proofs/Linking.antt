@@ -7,31 +7,17 @@ use Prim.Native.Nat.{ℕ, zero, suc, _+_, _*_, _≤_, _<_, zero-le, suc-le-suc}
 use native.Mathlib.Nat.{le-of-suc-le-suc, not-suc-le-zero}
 use native.Mathlib.Omega.{arith}
 use lib.ListN.{length, getD, take}
-use lib.Seq.{sets, take-all, length-take-le, getD-take}
+use lib.Seq.{sets, length-take-le, getD-take}
 use Rattle.wire.specs.Pick.{pick}
 use Rattle.flow.specs.Node.{Node, found, lastWith}
 use Rattle.flow.specs.Reached.{Reached, first, target}
 use Rattle.flow.specs.Computed.{isReached}
-use Rattle.flow.specs.Linked.{targetsAt, nodesFrom, nodes, numberFrom, numbers, flags, linkedTargets, linkedFlags}
+use Rattle.flow.specs.Linked.{targetsAt, nodesFrom, nodes, numberFrom, numbers, flags, linkedFlags}
 use Rattle.flow.specs.Way.{outs, Way, start, go, Marked, marksOf}
 use Rattle.flow.proofs.Members.{truth, among-at}
 use Rattle.flow.proofs.Agree.{computed-reached}
 use Rattle.flow.proofs.Numbers.{Here, number-inside, number-block, last-here, found-number, target-place, nodes-length, nodes-at}
 use Rattle.flow.proofs.Laws.{numbered-at}
-
--- ---- all 1,024 blocks
-
-module _ (n : ℕ) (ids counts targets emitted : List ℕ) (all : 1024 ≤ n) (size : length ids ≡ 1024) where
-  same-ids : take 1024 ids ≡ take n ids
-  same-ids = take-all 1024 ids (omega arith) ∙ sym (take-all n ids (omega arith))
-
-  pub targets-all : {t : List ℕ} → length targets ≡ 2048 → t ≡ linkedTargets 1024 ids targets → t ≡ linkedTargets n ids targets
-  unfolding linkedTargets
-  targets-all e f = f ∙ rw (same-ids, take-all (2 * 1024) targets (omega arith), take-all (2 * n) targets (omega arith))
-
-  pub flags-all : {e : List ℕ} → e ≡ linkedFlags 1024 ids counts targets emitted → e ≡ linkedFlags n ids counts targets emitted
-  unfolding linkedFlags
-  flags-all f = f ∙ rw same-ids
 
 -- ---- ways and reached ids
 
@@ -72,12 +58,12 @@ module _ (n : ℕ) (ids counts targets : List ℕ) (size : length ids ≡ n) (fe
       here : Here ids (getD ids b 0) b
       reached : Reached (nodes ids counts targets) (getD ids b 0)
 
-    land : (t b : ℕ) → numberFrom 0 ids t ≡ b → b < 1024 → (Here ids t b → Reached (nodes ids counts targets) t) → Landed b
+    land : (t b : ℕ) → numberFrom 0 ids t ≡ b → b < n → (Here ids t b → Reached (nodes ids counts targets) t) → Landed b
     land t b e l r =
         let h : Here ids t b = subst (Here ids t) e (number-inside ids t (omega arith) (omega (arith, e))) in
         record { here = rw (h .there) h; reached = rw (h .there) (r h) }
 
-    way-lands : {b : ℕ} → Way (numberFrom 0 ids x) counts (numbered n ids targets) b → b < 1024 → Landed b
+    way-lands : {b : ℕ} → Way n (numberFrom 0 ids x) counts (numbered n ids targets) b → b < n → Landed b
     way-lands start l = land x (numberFrom 0 ids x) refl l (λ h. let q : 0 < length ids = omega (arith, h .inside) in rw (head q) (first-reached ids counts targets q))
     way-lands (go {b} w s i h) l =
         let p = way-lands w s in
@@ -85,32 +71,32 @@ module _ (n : ℕ) (ids counts targets : List ℕ) (size : length ids ≡ n) (fe
         land (getD (outs counts targets b) i 0) (getD (outs counts (numbered n ids targets) b) i 0) (sym (outs-at b (omega (arith, p .here .inside)) i q)) l
         (λ _. target (p .reached) (last-here counts targets ids (getD ids b 0) b (p .here)) (among-at (outs counts targets b) i q))
 
-    reached-way : {ns : List Node} {id : ℕ} → Reached ns id → ns ≡ nodes ids counts targets → Way (numberFrom 0 ids x) counts (numbered n ids targets) (numberFrom 0 ids id)
+    reached-way : {ns : List Node} {id : ℕ} → Reached ns id → ns ≡ nodes ids counts targets → Way n (numberFrom 0 ids x) counts (numbered n ids targets) (numberFrom 0 ids id)
     reached-way (first {n = m}) e =
         let l : 0 < length ids = omega (arith, ap length e, nodes-length counts targets ids) in
         let i : m .id ≡ getD ids 0 0 = ap (λ (k : List Node). getD k 0 m .id) e ∙ ap (λ (k : Node). k .id) (nodes-at counts targets ids 0 m l) in
-        subst (λ (y : ℕ). Way (numberFrom 0 ids x) counts (numbered n ids targets) (numberFrom 0 ids y)) (head l ∙ sym i) start
+        subst (λ (y : ℕ). Way n (numberFrom 0 ids x) counts (numbered n ids targets) (numberFrom 0 ids y)) (head l ∙ sym i) start
     reached-way (target {id = id} {t = t} {n = m} r f a) e =
         let g : lastWith (nodes ids counts targets) id ≡ found m = ap (λ (k : List Node). lastWith k id) (sym e) ∙ f in
         let b = numberFrom 0 ids id in
         let h = found-number counts targets ids id (omega arith) g in
         let p = target-place counts targets ids id b h t g a in
-        subst (Way (numberFrom 0 ids x) counts (numbered n ids targets)) (outs-at b (omega (arith, h .inside)) (p .0) (p .1) ∙ ap (numberFrom 0 ids) (p .2))
+        subst (Way n (numberFrom 0 ids x) counts (numbered n ids targets)) (outs-at b (omega (arith, h .inside)) (p .0) (p .1) ∙ ap (numberFrom 0 ids) (p .2))
         (go (reached-way r e) (omega (arith, h .inside)) (p .0) (omega (arith, p .1, outs-length b)))
 
     -- ---- marks are flags
 
     module _ (marks : List ℕ) where
-      flag-at : Marked (numberFrom 0 ids x) counts (numbered n ids targets) marks → (i : ℕ) → i < length ids → getD marks (numberFrom 0 ids (getD ids i 0)) 0 ≡ pick (isReached (nodes ids counts targets) (getD ids i 0)) 1 0
+      flag-at : Marked n (numberFrom 0 ids x) counts (numbered n ids targets) marks → (i : ℕ) → i < length ids → getD marks (numberFrom 0 ids (getD ids i 0)) 0 ≡ pick (isReached (nodes ids counts targets) (getD ids i 0)) 1 0
       flag-at m i h =
           let ns = nodes ids counts targets in
           let id = getD ids i 0 in
           let b = numberFrom 0 ids id in
           let l = number-block ids i (omega arith) h in
-          ⊎-elim (λ (y : (getD marks b 0 ≡ 1) × Way (numberFrom 0 ids x) counts (numbered n ids targets) b).
+          ⊎-elim (λ (y : (getD marks b 0 ≡ 1) × Way n (numberFrom 0 ids x) counts (numbered n ids targets) b).
           let r = subst (Reached ns) (number-inside ids id (omega arith) (omega arith) .there) (way-lands (y .1) (omega arith) .reached) in
           rw (computed-reached ns id .1 r) (y .0))
-          (λ (y : (getD marks b 0 ≡ 0) × (Way (numberFrom 0 ids x) counts (numbered n ids targets) b → ⊥)).
+          (λ (y : (getD marks b 0 ≡ 0) × (Way n (numberFrom 0 ids x) counts (numbered n ids targets) b → ⊥)).
           ⊎-elim (λ (t : isReached ns id ≡ true). absurd (y .1 (reached-way (computed-reached ns id .0 t) refl))) (λ (f : isReached ns id ≡ false). rw f (y .0)) (truth (isReached ns id)))
           (m .each b (omega arith))
 
@@ -119,12 +105,12 @@ module _ (n : ℕ) (ids counts targets : List ℕ) (size : length ids ≡ n) (fe
       flags-of [] f = refl
       flags-of (y ∷ l) f = rw (f 0 (suc-le-suc zero-le), flags-of l (λ i h. f (suc i) (suc-le-suc h)))
 
-      pub marks-flags : {f : ℕ} {t : List ℕ} → f ≡ numberFrom 0 ids x → t ≡ numbered n ids targets → Marked f counts t marks → marksOf marks ids ids ≡ flags (nodes ids counts targets) ids
+      pub marks-flags : {f : ℕ} {t : List ℕ} → f ≡ numberFrom 0 ids x → t ≡ numbered n ids targets → Marked n f counts t marks → marksOf marks ids ids ≡ flags (nodes ids counts targets) ids
       marks-flags {f} {t} e g m =
-          flags-of ids (flag-at (subst (λ (u : List ℕ). Marked (numberFrom 0 ids x) counts u marks) g (subst (λ (i : ℕ). Marked i counts t marks) e m)))
+          flags-of ids (flag-at (subst (λ (u : List ℕ). Marked n (numberFrom 0 ids x) counts u marks) g (subst (λ (i : ℕ). Marked n i counts t marks) e m)))
 
 -- what is left where each block's flag is the mark of the last block with its id
-pub flags-linked : (n : ℕ) (ids counts targets emitted marks : List ℕ) {f : ℕ} {t e : List ℕ} → n ≤ 1024 → length ids ≡ 1024 → length targets ≡ 2048 → f ≡ numberFrom 0 (take n ids) (getD ids 0 0) → t ≡ numbered n (take n ids) targets → Marked f counts t marks → e ≡ sets emitted 0 (marksOf marks (take n ids) (take n ids)) → e ≡ linkedFlags n ids counts targets emitted
+pub flags-linked : (n : ℕ) (ids counts targets emitted marks : List ℕ) {f : ℕ} {t e : List ℕ} → n ≤ 1024 → n ≤ length ids → 2 * n ≤ length targets → f ≡ numberFrom 0 (take n ids) (getD ids 0 0) → t ≡ numbered n (take n ids) targets → Marked n f counts t marks → e ≡ sets emitted 0 (marksOf marks (take n ids) (take n ids)) → e ≡ linkedFlags n ids counts targets emitted
 unfolding linkedFlags
 flags-linked n ids counts targets emitted marks h i s p q m r =
     let l : length (take n ids) ≡ n = length-take-le n ids (omega arith) in

@@ -13,8 +13,8 @@ keysFrom i (id ∷ ids) = (id * 1024 + i) ∷ keysFrom (suc i) ids
 -- the first n of keys are the sorted keys of the first n blocks
 pub record Keyed (n : ℕ) (ids keys : List ℕ) : Type 0 where
   pub count : n ≤ 1024
-  pub size : length ids ≡ 1024
-  pub room : length keys ≡ 1024
+  pub size : n ≤ length ids
+  pub room : n ≤ length keys
   pub sorts : take n keys ≡ sorted (keysFrom 0 (take n ids))
 
 -- the first r numbers of l are below the bound; from r on they are not

@@ -5,7 +5,7 @@ use mathlib.Core.List.{List, [], _∷_, _++_}
 use lib.Dec.{eqb, leb}
 use lib.ListN.{length, take, getD}
 use lib.Seq.{sets}
-use Rattle.wire.specs.Pick.{pick}
+use Rattle.wire.specs.Pick.{pick, both}
 use Rattle.flow.specs.Node.{Node}
 use Rattle.flow.specs.Computed.{isReached}
 
@@ -44,3 +44,11 @@ linkedTargets n ids targets = sets targets 0 (numbers (take n ids) (take (2 * n)
 
 unfoldable pub linkedFlags : ℕ → List ℕ → List ℕ → List ℕ → List ℕ → List ℕ
 linkedFlags n ids counts targets emitted = sets emitted 0 (flags (nodes (take n ids) counts targets) (take n ids))
+
+-- there are at most 1,024 blocks, and lists of these lengths hold them
+unfoldable pub roomFor : ℕ → ℕ → ℕ → ℕ → ℕ → Bool
+roomFor n ids counts targets emitted = both (leb n 1024) (both (leb n ids) (both (leb n counts) (both (leb (2 * n) targets) (leb n emitted))))
+
+-- the lists hold the blocks; else nothing is done
+unfoldable pub room : ℕ → List ℕ → List ℕ → List ℕ → List ℕ → Bool
+room n ids counts targets emitted = roomFor n (length ids) (length counts) (length targets) (length emitted)

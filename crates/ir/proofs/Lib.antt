@@ -1,2 +1,1 @@
 pub mod OperandLaws
-pub mod FewLaws

@@ -1,5 +1,4 @@
 // A unit's instructions and terminators, as values. A map is a number: the place of its record among the maps.
-pub mod few;
 pub mod operands;
 
 use operands::Operands;

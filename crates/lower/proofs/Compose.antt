@@ -53,12 +53,6 @@ module _ {b₀ b : List ℕ} {at : ℕ} {r : Emitted} where
   along e h = rw e at h
 
   -- pieces with no map before them
-  pub two : {a₁ a₂ x₁ x₂ : Lowered} → Puts b₀ at (becomes [] ▸ a₁ ▸ a₂) b r → a₁ ≡ x₁ → a₂ ≡ x₂ → Puts b₀ at (x₁ ▸ x₂) b r
-  two h e₁ e₂ = along (alone e₁ ▹ e₂) h
-
-  pub three : {a₁ a₂ a₃ x₁ x₂ x₃ : Lowered} → Puts b₀ at (becomes [] ▸ a₁ ▸ a₂ ▸ a₃) b r → a₁ ≡ x₁ → a₂ ≡ x₂ → a₃ ≡ x₃ → Puts b₀ at (x₁ ▸ x₂ ▸ x₃) b r
-  three h e₁ e₂ e₃ = along (alone e₁ ▹ e₂ ▹ e₃) h
-
   pub five : {a₁ a₂ a₃ a₄ a₅ x₁ x₂ x₃ x₄ x₅ : Lowered} → Puts b₀ at (becomes [] ▸ a₁ ▸ a₂ ▸ a₃ ▸ a₄ ▸ a₅) b r
       → a₁ ≡ x₁ → a₂ ≡ x₂ → a₃ ≡ x₃ → a₄ ≡ x₄ → a₅ ≡ x₅ → Puts b₀ at (x₁ ▸ x₂ ▸ x₃ ▸ x₄ ▸ x₅) b r
   five h e₁ e₂ e₃ e₄ e₅ = along (alone e₁ ▹ e₂ ▹ e₃ ▹ e₄ ▹ e₅) h

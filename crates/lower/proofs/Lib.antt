@@ -4,3 +4,4 @@ pub mod Compose
 pub mod Counts
 pub mod Codes
 pub mod Pieces
+pub mod Words

@@ -12,19 +12,18 @@ use Rattle.wire.specs.Pick.{pick, either}
 use Rattle.ir.specs.declared.BinaryOp.{BinaryOp}
 use Rattle.ir.specs.declared.Operand.{Operand}
 use Rattle.ir.specs.declared.Operand.the-variants.{Var, Immediate}
-use Rattle.insn.specs.Rfc.{ALU64, K, X, operationOf, aluByte, sizeField}
-use Rattle.insn.specs.Form.{opcodeOf}
+use Rattle.insn.specs.Rfc.{ALU64, K, X, LDX, operationOf, aluByte, sizeField}
+use Rattle.insn.specs.Form.{opcodeOf, memCode}
+use Rattle.insn.specs.Layout.{insnOf}
 use Rattle.insn.specs.declared.Insn.{Insn}
 use Rattle.insn.specs.declared.form.Size.the-variants.{Dw}
-use Rattle.insn.specs.declared.form.Form.the-variants.{Ldx, Stx}
+use Rattle.insn.specs.declared.form.Form.the-variants.{Ldx, Stx, AluReg}
 use Rattle.frame.specs.Cell.{Frame, frameOf}
 use Rattle.frame.specs.Hint.{frameBy}
-use Rattle.frame.specs.declared.Cell.{Cell}
-use Rattle.frame.specs.declared.Cell.the-variants.{At, Missing}
 use Rattle.lower.specs.Op.{Lowered, becomes, refused, plain, insn, _▸_}
-use Rattle.lower.specs.Operand.{fits32, constant, move, add, call, onCell, load, addr, keep}
-use Rattle.lower.specs.Instruction.{operate, nullCheck, helperCall, onNone, onThree}
-use Rattle.lower.specs.Step.{Small, one, withConstant, addrPut, addrTake, nullTest, nullZero, nullRest}
+use Rattle.lower.specs.Operand.{fits16, fits32, constant, move, add, call, load, addr, keep}
+use Rattle.lower.specs.Instruction.{sized, mem, operate, nullCheck, helperCall, onNone, onThree}
+use Rattle.lower.specs.Step.{opsIn, words, one, withConstant, addrPut, addrTake, nullTest, nullZero, nullRest}
 use Rattle.lower.specs.declared.Reason.{Reason}
 use Rattle.lower.specs.declared.Reason.the-variants as Re
 use Rattle.lower.proofs.Compose.{assoc, nothing-first}
@@ -34,37 +33,6 @@ use Rattle.lower.proofs.Compose.{assoc, nothing-first}
 pub is-constant : (r : ℕ) (z : ℤ) → withConstant 0xb7 r z ≡ constant r z
 unfolding withConstant constant one insn opcodeOf
 is-constant r z = refl
-
--- ---- registers
-
-small-one : (code dst src : ℕ) (off imm : ℤ) → dst < 16 → src < 16 → Small (one code dst src off imm)
-unfolding one
-small-one code dst src off imm h l =
-    record { dst = λ i e. (let d : i .dst ≡ dst = cc in omega arith); src = λ i e. (let s : i .src ≡ src = cc in omega arith) }
-
-small-refused : (q : Reason) → Small (refused q)
-small-refused q = record { dst = λ i e. absurd (never e); src = λ i e. absurd (never e) }
-  where
-    never : {i : Insn} → becomes (plain i ∷ []) ≡ refused q → ⊥
-    never e = let z : _≡_ {A = ℕ} 0 1 = cc in omega arith
-
-pub small-constant : (code r : ℕ) (z : ℤ) → r < 16 → Small (withConstant code r z)
-unfolding withConstant
-small-constant code r z h = go (fits32 z)
-  where
-    go : (t : Bool) → Small (pick t (one code r 0 (pos 0) z) (refused (Re.Immediate z)))
-    go true = small-one code r 0 (pos 0) z h (omega arith)
-    go false = small-refused (Re.Immediate z)
-
-small-cell : (v r : ℕ) (cell : Cell) → r < 16 → Small (onCell v cell (λ offset. insn (Ldx Dw) r 10 offset (pos 0)))
-unfolding onCell insn one
-small-cell v r (At offset) h = small-one (opcodeOf (Ldx Dw)) r 10 offset (pos 0) h (omega arith)
-small-cell v r Missing h = small-refused (Re.NoCell v)
-
-pub small-load : (f : Frame) (r : ℕ) (o : Operand) → r < 16 → Small (load f r o)
-unfolding load
-small-load f r (Var v) h = small-cell v r (f .cell v) h
-small-load f r (Immediate z) h = rw (← is-constant r z) (small-constant 0xb7 r z h)
 
 -- ---- addresses
 
@@ -103,20 +71,25 @@ null-parts false = refl
 
 -- ---- Binary's second operand
 
-module _ (f : Frame) (op : BinaryOp) {o : Operand} {code : ℕ} where
-  pub operate-constant : {x z : ℤ} → o ≡ Immediate z → code ≡ aluByte ALU64 K (operationOf op) → x ≡ z → withConstant code 0 x ≡ operate f op o
+module _ (f : Frame) (op : BinaryOp) {code : ℕ} where
+  pub operate-constant : {x z : ℤ} → code ≡ aluByte ALU64 K (operationOf op) → x ≡ z → withConstant code 0 x ≡ operate f op (Immediate z)
   unfolding operate withConstant insn opcodeOf one
-  operate-constant e h i = rw (e, h, i)
+  operate-constant h i = rw (h, i)
 
-  pub operate-register : {v : ℕ} {i : Insn} → o ≡ Var v → becomes (plain i ∷ []) ≡ load f 1 o → code ≡ aluByte ALU64 X (operationOf op)
-      → becomes (plain i ∷ plain (record { code = code; dst = 0; src = 1; off = pos 0; imm = pos 0 }) ∷ []) ≡ operate f op o
-  unfolding operate _▸_ insn opcodeOf
-  operate-register e l h = rw e (rw (← (rw e at l), h))
+  pub operate-register : (w : ℕ) → insnOf w ≡ record { code = code; dst = 0; src = 1; off = pos 0; imm = pos 0 } → code ≡ aluByte ALU64 X (operationOf op)
+      → words (w ∷ []) ≡ insn (AluReg op) 0 1 (pos 0) (pos 0)
+  unfolding words opsIn insn opcodeOf
+  operate-register w e h = rw (e, h)
 
-module _ (f : Frame) (op : BinaryOp) {o : Operand} where
-  pub operate-refused : {v : ℕ} {q : Reason} → o ≡ Var v → refused q ≡ load f 1 o → refused q ≡ operate f op o
-  unfolding operate _▸_ insn
-  operate-refused e l = rw e (rw (← (rw e at l)))
+-- ---- memory
+
+pub key-load : (w : ℕ) → insnOf w ≡ record { code = 0x79; dst = 0; src = 1; off = pos 0; imm = pos 0 } → words (w ∷ []) ≡ insn (Ldx Dw) 0 1 (pos 0) (pos 0)
+unfolding words opsIn insn opcodeOf sizeField
+key-load w e = rw e
+
+abbrev pub contextLoad : ℕ → ℤ → Lowered
+contextLoad size offset =
+    sized (memCode LDX size) (Re.LoadSize size) (λ code. pick (fits16 offset) (mem code 0 6 offset) (refused (Re.Offset offset)))
 
 -- ---- HelperCall
 

@@ -126,7 +126,7 @@ unfolding mapIn mapOps
 map-told M.Nothing = refl
 map-told (M.Map m) = refl
 
-told : {o : Outcome} {m : MapUse} {s : ℕ} (l : List Op) → o ≡ Fine → mapIn l ≡ m → s ≡ slotsOf l → (record { outcome = o; map = m; slots = s }) ≡ held (becomes l)
+pub told : {o : Outcome} {m : MapUse} {s : ℕ} (l : List Op) → o ≡ Fine → mapIn l ≡ m → s ≡ slotsOf l → (record { outcome = o; map = m; slots = s }) ≡ held (becomes l)
 unfolding held
 told l e f g = rw (e, sym f, g)
 

@@ -1,5 +1,5 @@
 -- One instruction that may be refused, pieces of several, and what putting them leaves.
-use Prim.Native.Nat.{ℕ, _+_, _*_, _<_, _≤_}
+use Prim.Native.Nat.{ℕ, _+_, _*_, _≤_}
 use mathlib.Core.Path.{_≡_}
 use mathlib.Core.Bool.{Bool, true, false}
 use mathlib.Core.List.{List, [], _∷_}
@@ -9,7 +9,6 @@ use Rattle.wire.specs.Pick.{pick}
 use Rattle.ir.specs.declared.Operand.{Operand}
 use Rattle.ir.specs.declared.Operand.the-variants.{Var, Immediate}
 use Rattle.insn.specs.Layout.{insnOf}
-use Rattle.insn.specs.declared.Insn.{Insn}
 use Rattle.insn.specs.declared.form.Size.the-variants.{Dw}
 use Rattle.insn.specs.declared.form.Form.the-variants.{Stx, Ja, JeqImm, Exit}
 use Rattle.frame.specs.Cell.{Frame}
@@ -17,12 +16,15 @@ use Rattle.lower.specs.Op.{Op, plain, map, Lowered, becomes, refused, in
 use Rattle.lower.specs.Operand.{fits32, constant, move, add, onCell}
 use Rattle.lower.specs.Put.{insnsIn, putAt, putLowered}
 use Rattle.lower.specs.Held.{mapIn, held}
+use Rattle.lower.specs.declared.Reason.{Reason}
 use Rattle.lower.specs.declared.Reason.the-variants as Re
 use Rattle.lower.specs.declared.Outcome.{Outcome}
 use Rattle.lower.specs.declared.Outcome.the-variants.{Fine, Refused}
 use Rattle.lower.specs.declared.MapUse.{MapUse}
 use Rattle.lower.specs.declared.MapUse.the-variants as M
 use Rattle.lower.specs.declared.Emitted.{Emitted}
+use Rattle.lower.specs.declared.piece.Encoded.{Encoded}
+use Rattle.lower.specs.declared.piece.Encoded.the-variants as W
 use Rattle.lower.specs.declared.piece.Step.{Step}
 use Rattle.lower.specs.declared.piece.Step.the-variants as S
 use Rattle.lower.specs.declared.piece.Piece.{Piece}
@@ -40,10 +42,22 @@ unfoldable pub stepOf : Step → Lowered
 stepOf (S.Is i) = becomes (plain i ∷ [])
 stepOf (S.Refused r) = refused r
 
--- where x is one instruction, its registers have four bits each
-pub record Small (x : Lowered) : Type 0 where
-  pub dst : (i : Insn) → becomes (plain i ∷ []) ≡ x → i .dst < 16
-  pub src : (i : Insn) → becomes (plain i ∷ []) ≡ x → i .src < 16
+-- words one after the other, each an instruction
+unfoldable pub opsIn : List ℕ → List Op
+opsIn [] = []
+opsIn (w ∷ l) = plain (insnOf w) ∷ opsIn l
+
+unfoldable pub words : List ℕ → Lowered
+words l = becomes (opsIn l)
+
+-- what a word becomes, and why it is refused where it is
+unfoldable pub wordIs : Encoded → Lowered
+wordIs (W.Is w) = words (w ∷ [])
+wordIs (W.Refused r) = refused r
+
+unfoldable pub reasonOf : Encoded → Reason
+reasonOf (W.Is w) = Re.Helper16
+reasonOf (W.Refused r) = r
 
 -- what a piece becomes: its refusal, its operations
 unfoldable pub outcomeOf : Piece → Outcome

@@ -1,23 +1,28 @@
-// What each opcode becomes, in 01's order: the count of operands, then piece by piece. The operands stand in a payload from byte 16 on.
+// What each opcode becomes, in 01's order: the count of operands, then word by word or piece by piece; nothing is put before all are decided. The operands stand in a payload from byte 16 on.
 use crate::Emitted;
 use crate::MapUse;
 use crate::Reason;
 use crate::list;
+use crate::piece::Encoded;
 use crate::piece::call_update;
 use crate::piece::constant;
+use crate::piece::constant_word;
 use crate::piece::context_address;
 use crate::piece::keep;
+use crate::piece::keep_word;
 use crate::piece::load;
 use crate::piece::load_context;
+use crate::piece::load_word;
 use crate::piece::next;
 use crate::piece::null_rest;
 use crate::piece::null_test;
 use crate::piece::null_zero;
-use crate::piece::operate;
 use crate::piece::plain;
 use crate::piece::put_scratch;
+use crate::piece::reason;
 use crate::piece::store;
 use crate::piece::take_addr;
+use crate::piece::word;
 use insn::BPF_CALL;
 use insn::BPF_MOV64_IMM;
 use insn::R0;
@@ -25,19 +30,72 @@ use insn::R1;
 use insn::R2;
 use insn::R3;
 use ir::BinaryOp;
+use ir::Operand;
 use operand::operand_in;
+ghost use Prim.Native.Nat.{_<_};
 ghost use mathlib.Core.Bool.{false};
-ghost use mathlib.Core.List.{[]};
+ghost use mathlib.Core.List.{[], _∷_};
 ghost use mathlib.Core.Path.{_≡_};
 ghost use lib.Dec.{eqb};
 ghost use Rattle.wire.specs.Pick.{either};
-ghost use Rattle.operand.specs.Operand.{operandsIn};
+ghost use Rattle.operand.specs.Operand.{operandIn, operandsIn};
 ghost use Rattle.ir.specs.declared.Opcode.the-variants as C;
+ghost use Rattle.ir.specs.declared.Operand.the-variants as O;
 ghost use Rattle.frame.specs.Hint.{frameBy};
-ghost use Rattle.lower.specs.Instruction.{opcode, fromContext, helperCall, afterFirst, afterTwo};
-ghost use Rattle.lower.specs.Step.{Puts};
+ghost use Rattle.lower.specs.Op.{_▸_};
+ghost use Rattle.lower.specs.Operand.{call, load, keep};
+ghost use Rattle.lower.specs.Instruction.{opcode, operate, fromContext, helperCall, afterFirst, afterTwo};
+ghost use Rattle.lower.specs.Step.{words, Puts};
 
 // ---- alu
+
+// Binary after the load of its first operand, whose word is a: by the second operand's kind.
+fn by_constant(
+    code: &mut [u8],
+    at: usize,
+    variables: &[u32],
+    hints: &[u8; 256],
+    result: u32,
+    op: BinaryOp,
+    a: u64,
+    z: i64,
+) -> Emitted
+    ensures { λ r. ⌜ Puts (now (code .entry)) at (words (a ∷ []) ▸ operate (frameBy (now (variables .entry)) (now (hints .entry))) op (O.Immediate z) ▸ keep (frameBy (now (variables .entry)) (now (hints .entry))) result) (now (code .exit)) r ⌝ }
+{
+    let second = constant_word(insn::alu64_imm(op), R0, z);
+    let Encoded::Is(b) = second else {
+        return list::refused(reason(second));
+    };
+    let last = keep_word(variables, hints, result);
+    let Encoded::Is(c) = last else {
+        return list::refused(reason(last));
+    };
+    list::words_three(code, at, a, b, c)
+}
+
+fn by_variable(
+    code: &mut [u8],
+    at: usize,
+    variables: &[u32],
+    hints: &[u8; 256],
+    result: u32,
+    op: BinaryOp,
+    a: u64,
+    v: u32,
+) -> Emitted
+    ensures { λ r. ⌜ Puts (now (code .entry)) at (words (a ∷ []) ▸ operate (frameBy (now (variables .entry)) (now (hints .entry))) op (O.Var v) ▸ keep (frameBy (now (variables .entry)) (now (hints .entry))) result) (now (code .exit)) r ⌝ }
+{
+    let second = load_word(variables, hints, R1, Operand::Var(v));
+    let Encoded::Is(b) = second else {
+        return list::refused(reason(second));
+    };
+    let c = word(insn::alu64_reg(op), R0, R1, 0, 0);
+    let last = keep_word(variables, hints, result);
+    let Encoded::Is(d) = last else {
+        return list::refused(reason(last));
+    };
+    list::words_four(code, at, a, b, c, d)
+}
 
 pub fn binary(
     code: &mut [u8],
@@ -54,16 +112,14 @@ pub fn binary(
     if n != 2 {
         return list::refused(Reason::Count(n));
     }
-    let a = operand_in(payload, 16);
-    let b = operand_in(payload, 25);
-    list::three(
-        code,
-        at,
-        MapUse::Nothing,
-        load(variables, hints, R0, a),
-        operate(variables, hints, op, b),
-        keep(variables, hints, result),
-    )
+    let first = load_word(variables, hints, R0, operand_in(payload, 16));
+    let Encoded::Is(a) = first else {
+        return list::refused(reason(first));
+    };
+    match operand_in(payload, 25) {
+        Operand::Immediate(z) => by_constant(code, at, variables, hints, result, op, a, z),
+        Operand::Var(v) => by_variable(code, at, variables, hints, result, op, a, v),
+    }
 }
 
 // ---- memory
@@ -82,15 +138,16 @@ pub fn load_key(
     if n == 0 {
         return list::refused(Reason::Count(0));
     }
-    let a = operand_in(payload, 16);
-    list::three(
-        code,
-        at,
-        MapUse::Nothing,
-        load(variables, hints, R1, a),
-        plain(0x79, R0, R1, 0, 0),
-        keep(variables, hints, result),
-    )
+    let first = load_word(variables, hints, R1, operand_in(payload, 16));
+    let Encoded::Is(a) = first else {
+        return list::refused(reason(first));
+    };
+    let b = word(0x79, R0, R1, 0, 0);
+    let last = keep_word(variables, hints, result);
+    let Encoded::Is(c) = last else {
+        return list::refused(reason(last));
+    };
+    list::words_three(code, at, a, b, c)
 }
 
 pub fn store_value(
@@ -107,16 +164,19 @@ pub fn store_value(
     if n != 2 {
         return list::refused(Reason::Count(n));
     }
-    let a = operand_in(payload, 16);
-    let b = operand_in(payload, 25);
-    list::three(
-        code,
-        at,
-        MapUse::Nothing,
-        load(variables, hints, R1, a),
-        load(variables, hints, R2, b),
-        store(size),
-    )
+    let first = load_word(variables, hints, R1, operand_in(payload, 16));
+    let Encoded::Is(a) = first else {
+        return list::refused(reason(first));
+    };
+    let second = load_word(variables, hints, R2, operand_in(payload, 25));
+    let Encoded::Is(b) = second else {
+        return list::refused(reason(second));
+    };
+    let last = store(size);
+    let Encoded::Is(c) = last else {
+        return list::refused(reason(last));
+    };
+    list::words_three(code, at, a, b, c)
 }
 
 pub fn from_context(
@@ -130,13 +190,15 @@ pub fn from_context(
 ) -> Emitted
     ensures { λ r. ⌜ Puts (now (code .entry)) at (fromContext (frameBy (now (variables .entry)) (now (hints .entry))) result offset size) (now (code .exit)) r ⌝ }
 {
-    list::two(
-        code,
-        at,
-        MapUse::Nothing,
-        load_context(offset, size),
-        keep(variables, hints, result),
-    )
+    let first = load_context(offset, size);
+    let Encoded::Is(a) = first else {
+        return list::refused(reason(first));
+    };
+    let last = keep_word(variables, hints, result);
+    let Encoded::Is(b) = last else {
+        return list::refused(reason(last));
+    };
+    list::words_two(code, at, a, b)
 }
 
 pub fn copy_context(
@@ -193,6 +255,64 @@ fn takes_three(id: u32) -> bool
     }
 }
 
+fn call_word(id: u32) -> u64
+    requires { ⌜ id < 128 ⌝ }
+    ensures { λ w. ⌜ words (w ∷ []) ≡ call id ⌝ }
+{
+    word(BPF_CALL, 0, 0, 0, id as i32)
+}
+
+fn call_none(
+    code: &mut [u8],
+    at: usize,
+    variables: &[u32],
+    hints: &[u8; 256],
+    result: u32,
+    id: u32,
+) -> Emitted
+    requires { ⌜ id < 128 ⌝ }
+    ensures { λ r. ⌜ Puts (now (code .entry)) at (call id ▸ keep (frameBy (now (variables .entry)) (now (hints .entry))) result) (now (code .exit)) r ⌝ }
+{
+    let a = call_word(id);
+    let last = keep_word(variables, hints, result);
+    let Encoded::Is(b) = last else {
+        return list::refused(reason(last));
+    };
+    list::words_two(code, at, a, b)
+}
+
+fn call_three(
+    code: &mut [u8],
+    at: usize,
+    variables: &[u32],
+    hints: &[u8; 256],
+    result: u32,
+    id: u32,
+    payload: &[u8],
+) -> Emitted
+    requires { ⌜ id < 128 ⌝ }
+    ensures { λ r. ⌜ Puts (now (code .entry)) at (load (frameBy (now (variables .entry)) (now (hints .entry))) 1 (operandIn (now (payload .entry)) 16) ▸ load (frameBy (now (variables .entry)) (now (hints .entry))) 2 (operandIn (now (payload .entry)) 25) ▸ load (frameBy (now (variables .entry)) (now (hints .entry))) 3 (operandIn (now (payload .entry)) 34) ▸ call id ▸ keep (frameBy (now (variables .entry)) (now (hints .entry))) result) (now (code .exit)) r ⌝ }
+{
+    let first = load_word(variables, hints, R1, operand_in(payload, 16));
+    let Encoded::Is(a) = first else {
+        return list::refused(reason(first));
+    };
+    let second = load_word(variables, hints, R2, operand_in(payload, 25));
+    let Encoded::Is(b) = second else {
+        return list::refused(reason(second));
+    };
+    let third = load_word(variables, hints, R3, operand_in(payload, 34));
+    let Encoded::Is(c) = third else {
+        return list::refused(reason(third));
+    };
+    let d = call_word(id);
+    let last = keep_word(variables, hints, result);
+    let Encoded::Is(e) = last else {
+        return list::refused(reason(last));
+    };
+    list::words_five(code, at, a, b, c, d, e)
+}
+
 pub fn helper_call(
     code: &mut [u8],
     at: usize,
@@ -209,13 +329,7 @@ pub fn helper_call(
         if n != 0 {
             return list::refused(Reason::Count(n));
         }
-        return list::two(
-            code,
-            at,
-            MapUse::Nothing,
-            plain(BPF_CALL, 0, 0, 0, id as i32),
-            keep(variables, hints, result),
-        );
+        return call_none(code, at, variables, hints, result, id);
     }
     if id == 16 {
         return list::refused(Reason::Helper16);
@@ -224,19 +338,7 @@ pub fn helper_call(
         if n != 3 {
             return list::refused(Reason::Count(n));
         }
-        let a = operand_in(payload, 16);
-        let b = operand_in(payload, 25);
-        let c = operand_in(payload, 34);
-        return list::five(
-            code,
-            at,
-            MapUse::Nothing,
-            load(variables, hints, R1, a),
-            load(variables, hints, R2, b),
-            load(variables, hints, R3, c),
-            plain(BPF_CALL, 0, 0, 0, id as i32),
-            keep(variables, hints, result),
-        );
+        return call_three(code, at, variables, hints, result, id, payload);
     }
     list::refused(Reason::Helper(id))
 }

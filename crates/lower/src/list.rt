@@ -1,4 +1,4 @@
-// Two to six pieces put one after the other, after the load of a map's address where there is one; or the first refusal, and nothing put.
+// Two to five words put one after the other; or four to six pieces, after the load of a map's address where there is one, or the first refusal and nothing put.
 use crate::Emitted;
 use crate::MapUse;
 use crate::Outcome;
@@ -8,11 +8,12 @@ use crate::piece::first;
 use crate::piece::word;
 ghost use Prim.Native.Nat.{_+_, _*_, _≤_};
 ghost use mathlib.Core.Path.{_≡_};
+ghost use mathlib.Core.List.{[], _∷_};
 ghost use Rattle.wire.specs.Le.{store};
 ghost use Rattle.insn.specs.Layout.{bytesOf, insnOf};
 ghost use Rattle.lower.specs.Op.{becomes, refused, _▸_};
 ghost use Rattle.lower.specs.Held.{held};
-ghost use Rattle.lower.specs.Step.{pieceOf, mapOps, Holds, PutPiece, Puts};
+ghost use Rattle.lower.specs.Step.{words, pieceOf, mapOps, Holds, PutPiece, Puts};
 
 pub fn refused(r: Reason) -> Emitted
     ensures { λ e. ⌜ e ≡ held (refused r) ⌝ }
@@ -74,49 +75,63 @@ fn put(code: &mut [u8], at: usize, slot: u32, p: Piece) -> u32
     }
 }
 
+// ---- words
+
+pub fn words_two(code: &mut [u8], at: usize, a: u64, b: u64) -> Emitted
+    ensures { λ r. ⌜ Puts (now (code .entry)) at (words (a ∷ b ∷ [])) (now (code .exit)) r ⌝ }
+{
+    put_slot(code, at, 0, a);
+    put_slot(code, at, 1, b);
+    Emitted {
+        outcome: Outcome::Fine,
+        map: MapUse::Nothing,
+        slots: 2,
+    }
+}
+
+pub fn words_three(code: &mut [u8], at: usize, a: u64, b: u64, c: u64) -> Emitted
+    ensures { λ r. ⌜ Puts (now (code .entry)) at (words (a ∷ b ∷ c ∷ [])) (now (code .exit)) r ⌝ }
+{
+    put_slot(code, at, 0, a);
+    put_slot(code, at, 1, b);
+    put_slot(code, at, 2, c);
+    Emitted {
+        outcome: Outcome::Fine,
+        map: MapUse::Nothing,
+        slots: 3,
+    }
+}
+
+pub fn words_four(code: &mut [u8], at: usize, a: u64, b: u64, c: u64, d: u64) -> Emitted
+    ensures { λ r. ⌜ Puts (now (code .entry)) at (words (a ∷ b ∷ c ∷ d ∷ [])) (now (code .exit)) r ⌝ }
+{
+    put_slot(code, at, 0, a);
+    put_slot(code, at, 1, b);
+    put_slot(code, at, 2, c);
+    put_slot(code, at, 3, d);
+    Emitted {
+        outcome: Outcome::Fine,
+        map: MapUse::Nothing,
+        slots: 4,
+    }
+}
+
+pub fn words_five(code: &mut [u8], at: usize, a: u64, b: u64, c: u64, d: u64, e: u64) -> Emitted
+    ensures { λ r. ⌜ Puts (now (code .entry)) at (words (a ∷ b ∷ c ∷ d ∷ e ∷ [])) (now (code .exit)) r ⌝ }
+{
+    put_slot(code, at, 0, a);
+    put_slot(code, at, 1, b);
+    put_slot(code, at, 2, c);
+    put_slot(code, at, 3, d);
+    put_slot(code, at, 4, e);
+    Emitted {
+        outcome: Outcome::Fine,
+        map: MapUse::Nothing,
+        slots: 5,
+    }
+}
+
 // ---- lists
-
-pub fn two(code: &mut [u8], at: usize, map: MapUse, a: Piece, b: Piece) -> Emitted
-    ensures { λ r. ⌜ Puts (now (code .entry)) at (becomes (mapOps map) ▸ pieceOf a ▸ pieceOf b) (now (code .exit)) r ⌝ }
-{
-    let o = first(Outcome::Fine, a);
-    let o = first(o, b);
-    match o {
-        Outcome::Refused(r) => refused(r),
-        Outcome::Fine => {
-            let slot = put_map(code, at, map);
-            let slot = put(code, at, slot, a);
-            let slots = put(code, at, slot, b);
-            Emitted {
-                outcome: o,
-                map,
-                slots,
-            }
-        }
-    }
-}
-
-pub fn three(code: &mut [u8], at: usize, map: MapUse, a: Piece, b: Piece, c: Piece) -> Emitted
-    ensures { λ r. ⌜ Puts (now (code .entry)) at (becomes (mapOps map) ▸ pieceOf a ▸ pieceOf b ▸ pieceOf c) (now (code .exit)) r ⌝ }
-{
-    let o = first(Outcome::Fine, a);
-    let o = first(o, b);
-    let o = first(o, c);
-    match o {
-        Outcome::Refused(r) => refused(r),
-        Outcome::Fine => {
-            let slot = put_map(code, at, map);
-            let slot = put(code, at, slot, a);
-            let slot = put(code, at, slot, b);
-            let slots = put(code, at, slot, c);
-            Emitted {
-                outcome: o,
-                map,
-                slots,
-            }
-        }
-    }
-}
 
 pub fn four(
     code: &mut [u8],

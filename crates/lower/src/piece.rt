@@ -1,4 +1,4 @@
-// "Load", "Addr", "Keep": pieces of at most two instructions, which may be refused.
+// "Load", "Addr", "Keep": words and pieces of at most two instructions, which may be refused.
 use crate::Outcome;
 use crate::Reason;
 use frame::Cell;
@@ -17,7 +17,6 @@ use insn::R3;
 use insn::R4;
 use insn::R6;
 use insn::R10;
-use ir::BinaryOp;
 use ir::Operand;
 ghost use Prim.Native.Nat.{_<_};
 ghost use mathlib.Core.List.{[], _∷_};
@@ -31,8 +30,14 @@ ghost use Rattle.insn.specs.Form.{memCode};
 ghost use Rattle.insn.specs.Layout.{insnOf};
 ghost use Rattle.lower.specs.Op.{plain, becomes, refused, _▸_};
 ghost use Rattle.lower.specs.Operand.{fits16, constant, move, add, call, load, next, keep};
-ghost use Rattle.lower.specs.Instruction.{sized, mem, operate};
-ghost use Rattle.lower.specs.Step.{stepOf, Small, pieceOf, outcomeOf, firstOf, one, withConstant, addrPut, addrTake, nullTest, nullZero, nullRest};
+ghost use Rattle.lower.specs.Instruction.{sized, mem};
+ghost use Rattle.lower.specs.Step.{stepOf, wordIs, reasonOf, pieceOf, outcomeOf, firstOf, one, withConstant, addrPut, addrTake, nullTest, nullZero, nullRest};
+
+// One instruction as its word, or why it is refused.
+pub enum Encoded {
+    Is(u64),
+    Refused(Reason),
+}
 
 // One instruction, or why it is refused.
 pub enum Step {
@@ -86,13 +91,23 @@ pub(crate) fn word(code: u8, dst: u8, src: u8, off: i16, imm: i32) -> u64
     })
 }
 
-fn single(s: Step) -> Piece
-    requires { ⌜ Small (stepOf s) ⌝ }
-    ensures { λ p. ⌜ pieceOf p ≡ stepOf s ⌝ }
+// Why there is no word, where there is none.
+pub fn reason(w: Encoded) -> Reason
+    ensures { λ r. ⌜ r ≡ reasonOf w ⌝ }
 {
-    match s {
-        Step::Is(i) => Piece::One(word_of(i)),
-        Step::Refused(r) => Piece::Refused(r),
+    match w {
+        Encoded::Is(_) => Reason::Helper16,
+        Encoded::Refused(r) => r,
+    }
+}
+
+// A word as a piece.
+fn single(w: Encoded) -> Piece
+    ensures { λ p. ⌜ pieceOf p ≡ wordIs w ⌝ }
+{
+    match w {
+        Encoded::Is(a) => Piece::One(a),
+        Encoded::Refused(r) => Piece::Refused(r),
     }
 }
 
@@ -125,12 +140,25 @@ fn with_constant(code: u8, r: u8, z: i64) -> Step
     })
 }
 
+pub(crate) fn constant_word(code: u8, r: u8, z: i64) -> Encoded
+    requires { ⌜ r < 16 ⌝ }
+    ensures { λ w. ⌜ wordIs w ≡ withConstant code r z ⌝ }
+{
+    if z < -2147483648 {
+        return Encoded::Refused(Reason::Immediate(z));
+    }
+    if z > 2147483647 {
+        return Encoded::Refused(Reason::Immediate(z));
+    }
+    Encoded::Is(word(code, r, 0, 0, z as i32))
+}
+
 // MOV64 of a constant.
 pub(crate) fn constant(r: u8, z: i64) -> Piece
     requires { ⌜ r < 16 ⌝ }
     ensures { λ p. ⌜ pieceOf p ≡ constant r z ⌝ }
 {
-    single(with_constant(BPF_MOV64_IMM, r, z))
+    single(constant_word(BPF_MOV64_IMM, r, z))
 }
 
 // ---- cells
@@ -154,21 +182,40 @@ pub fn load_step(variables: &[u32], hints: &[u8; 256], r: u8, o: Operand) -> Ste
     }
 }
 
+pub(crate) fn load_word(variables: &[u32], hints: &[u8; 256], r: u8, o: Operand) -> Encoded
+    requires { ⌜ r < 16 ⌝ }
+    ensures { λ w. ⌜ wordIs w ≡ load (frameBy (now (variables .entry)) (now (hints .entry))) r o ⌝ }
+{
+    match o {
+        Operand::Immediate(z) => constant_word(BPF_MOV64_IMM, r, z),
+        Operand::Var(v) => match frame::hint::cell_at(variables, hints, v) {
+            Cell::At(offset) => Encoded::Is(word(0x79, r, R10, offset, 0)),
+            Cell::Missing => Encoded::Refused(Reason::NoCell(v)),
+        },
+    }
+}
+
 pub(crate) fn load(variables: &[u32], hints: &[u8; 256], r: u8, o: Operand) -> Piece
     requires { ⌜ r < 16 ⌝ }
     ensures { λ p. ⌜ pieceOf p ≡ load (frameBy (now (variables .entry)) (now (hints .entry))) r o ⌝ }
 {
-    single(load_step(variables, hints, r, o))
+    single(load_word(variables, hints, r, o))
 }
 
 // R0 stored to a variable's cell.
+pub fn keep_word(variables: &[u32], hints: &[u8; 256], v: u32) -> Encoded
+    ensures { λ w. ⌜ wordIs w ≡ keep (frameBy (now (variables .entry)) (now (hints .entry))) v ⌝ }
+{
+    match frame::hint::cell_at(variables, hints, v) {
+        Cell::At(offset) => Encoded::Is(word(0x7b, R10, R0, offset, 0)),
+        Cell::Missing => Encoded::Refused(Reason::NoCell(v)),
+    }
+}
+
 pub fn keep(variables: &[u32], hints: &[u8; 256], v: u32) -> Piece
     ensures { λ p. ⌜ pieceOf p ≡ keep (frameBy (now (variables .entry)) (now (hints .entry))) v ⌝ }
 {
-    match frame::hint::cell_at(variables, hints, v) {
-        Cell::At(offset) => plain(0x7b, R10, R0, offset, 0),
-        Cell::Missing => Piece::Refused(Reason::NoCell(v)),
-    }
+    single(keep_word(variables, hints, v))
 }
 
 // MOV of R10 to a register, and ADD of a cell to a register.
@@ -193,11 +240,11 @@ pub(crate) fn put_scratch(variables: &[u32], j: u8, r: u8, o: Operand) -> Piece
 {
     match o {
         Operand::Var(_) => Piece::Nothing,
-        Operand::Immediate(z) => match with_constant(BPF_MOV64_IMM, r, z) {
-            Step::Refused(q) => Piece::Refused(q),
-            Step::Is(i) => {
+        Operand::Immediate(z) => match constant_word(BPF_MOV64_IMM, r, z) {
+            Encoded::Refused(q) => Piece::Refused(q),
+            Encoded::Is(a) => {
                 let put = word(0x7b, R10, r, frame::scratch(variables, j), 0);
-                Piece::Two(word_of(i), put)
+                Piece::Two(a, put)
             }
         },
     }
@@ -228,51 +275,33 @@ pub fn next(j: u8, o: Operand) -> u8
     }
 }
 
-// ---- alu
-
-// The second operand's part of Binary.
-pub fn operate(variables: &[u32], hints: &[u8; 256], op: BinaryOp, o: Operand) -> Piece
-    ensures { λ p. ⌜ pieceOf p ≡ operate (frameBy (now (variables .entry)) (now (hints .entry))) op o ⌝ }
-{
-    match o {
-        Operand::Immediate(z) => single(with_constant(insn::alu64_imm(op), R0, z)),
-        Operand::Var(_) => match load_step(variables, hints, R1, o) {
-            Step::Refused(r) => Piece::Refused(r),
-            Step::Is(i) => {
-                let with = word(insn::alu64_reg(op), R0, R1, 0, 0);
-                Piece::Two(word_of(i), with)
-            }
-        },
-    }
-}
-
 // ---- memory
 
 // Bytes of the context, whose address is in R6, loaded into R0.
-pub fn load_context(offset: i32, size: u8) -> Piece
-    ensures { λ p. ⌜ pieceOf p ≡ sized (memCode LDX size) (Reason.LoadSize size) (λ code. pick (fits16 offset) (mem code 0 6 offset) (refused (Reason.Offset offset))) ⌝ }
+pub fn load_context(offset: i32, size: u8) -> Encoded
+    ensures { λ w. ⌜ wordIs w ≡ sized (memCode LDX size) (Reason.LoadSize size) (λ code. pick (fits16 offset) (mem code 0 6 offset) (refused (Reason.Offset offset))) ⌝ }
 {
     match insn::ldx_mem(size) {
         MemCode::Code(code) => {
             if offset < -32768 {
-                return Piece::Refused(Reason::Offset(offset));
+                return Encoded::Refused(Reason::Offset(offset));
             }
             if offset > 32767 {
-                return Piece::Refused(Reason::Offset(offset));
+                return Encoded::Refused(Reason::Offset(offset));
             }
-            plain(code, R0, R6, offset as i16, 0)
+            Encoded::Is(word(code, R0, R6, offset as i16, 0))
         }
-        MemCode::Unsupported => Piece::Refused(Reason::LoadSize(size)),
+        MemCode::Unsupported => Encoded::Refused(Reason::LoadSize(size)),
     }
 }
 
 // R2 stored where R1 points.
-pub fn store(size: u8) -> Piece
-    ensures { λ p. ⌜ pieceOf p ≡ sized (memCode STX size) (Reason.StoreSize size) (λ code. mem code 1 2 (pos 0)) ⌝ }
+pub fn store(size: u8) -> Encoded
+    ensures { λ w. ⌜ wordIs w ≡ sized (memCode STX size) (Reason.StoreSize size) (λ code. mem code 1 2 (pos 0)) ⌝ }
 {
     match insn::stx_mem(size) {
-        MemCode::Code(code) => plain(code, R1, R2, 0, 0),
-        MemCode::Unsupported => Piece::Refused(Reason::StoreSize(size)),
+        MemCode::Code(code) => Encoded::Is(word(code, R1, R2, 0, 0)),
+        MemCode::Unsupported => Encoded::Refused(Reason::StoreSize(size)),
     }
 }
 

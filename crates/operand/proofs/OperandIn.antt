@@ -5,23 +5,21 @@ use mathlib.Core.List.{List, [], _∷_, _++_, append-nil, append-assoc}
 use Prim.Native.Nat.{ℕ, zero, suc, _+_, _-_, _<_, _≤_}
 use native.Mathlib.Omega.{arith}
 use native.Mathlib.Numerals.{sub-one}
-use borrow.Author.Tests.{eqb-true, lt-ltb}
-use lib.Dec.{eqb, leb, ltb}
+use borrow.Author.Tests.{eqb-true}
+use lib.Dec.{eqb, leb}
 use lib.IntN.{ℤ}
 use lib.ListN.{length, getD, length-append, List·getD-eq-default}
 use mir.Syntax.{w32, w64}
 use Rattle.wire.specs.Pick.{pick}
 use Rattle.wire.specs.Le.{byteAt, unsignedAt, signedAt}
 use Rattle.wire.proofs.Le.{unsigned-out}
-use Rattle.ir.specs.Few.{missing, fewOf}
 use Rattle.ir.specs.Operands.{listOf, pushed}
 use Rattle.ir.specs.declared.Operand.{Operand}
 use Rattle.ir.specs.declared.Operand.the-variants.{Var, Immediate}
-use Rattle.ir.specs.declared.few.Few.{Few}
 use Rattle.ir.specs.declared.operands.Operands.{Operands}
 use Rattle.ir.specs.declared.operands.Operands.the-variants.{Zero}
 use Rattle.ir.proofs.OperandLaws.{pushed-last}
-use Rattle.operand.specs.Operand.{operandAt, onOperand, operandsAt, isOperand, areOperands, operandIn, operandsIn, fewAt}
+use Rattle.operand.specs.Operand.{operandAt, onOperand, operandsAt, isOperand, areOperands, operandIn, operandsIn}
 use Rattle.operand.specs.declared.ReadOperand.{ReadOperand}
 use Rattle.operand.specs.declared.ReadOperand.the-variants as O
 use Rattle.operand.specs.declared.ReadOperands.{ReadOperands}
@@ -137,18 +135,3 @@ pub operands-count : (b : List ℕ) (i k : ℕ) → length (operandsIn b i k) �
 unfolding operandsIn
 operands-count b i zero = refl
 operands-count b i (suc k) = ap suc (operands-count b (i + 9) k)
-
-made : {n m : ℕ} {a a′ b b′ c c′ : Operand} → n ≡ m → a ≡ a′ → b ≡ b′ → c ≡ c′ → _≡_ {A = Few} (record { count = n; a = a; b = b; c = c }) (record { count = m; a = a′; b = b′; c = c′ })
-made p q r s = rw (p, q, r, s) refl
-
-few-in : (b : List ℕ) (i k : ℕ) → fewAt b i k ≡ fewOf (operandsIn b i k)
-unfolding fewAt fewOf operandsIn
-few-in b i zero = refl
-few-in b i (suc zero) = refl
-few-in b i (suc (suc zero)) = refl
-few-in b i (suc (suc (suc k))) =
-    made (ap (λ (n : ℕ). suc (suc (suc n))) (sym (operands-count b (i + 9 + 9 + 9) k))) (rw (lt-ltb 0 (suc (suc (suc k))) (omega arith)) refl) (rw (lt-ltb 1 (suc (suc (suc k))) (omega arith)) refl)
-    (rw (lt-ltb 2 (suc (suc (suc k))) (omega arith)) (ap (operandIn b) (omega arith)))
-
-pub few-read : (b : List ℕ) (i k : ℕ) (l : Operands) → k ≤ 8 → operandsAt Zero b i k ≡ L.Is l → fewAt b i k ≡ fewOf (listOf l)
-few-read b i k l h e = few-in b i k ∙ ap fewOf (sym (operands-read b i k l h e))

@@ -2,16 +2,14 @@
 use Prim.Native.Nat.{ℕ, zero, suc, _+_}
 use mathlib.Core.Bool.{Bool, true, false}
 use mathlib.Core.List.{List, [], _∷_, _++_}
-use lib.Dec.{eqb, leb, ltb}
+use lib.Dec.{eqb, leb}
 use lib.ListN.{length}
 use mir.Syntax.{w32, w64}
 use Rattle.wire.specs.Pick.{pick}
 use Rattle.wire.specs.Le.{byteAt, unsignedAt, signedAt, unsignedBytes, signedBytes}
 use Rattle.ir.specs.declared.Operand.{Operand}
 use Rattle.ir.specs.declared.Operand.the-variants.{Var, Immediate}
-use Rattle.ir.specs.declared.few.Few.{Few}
 use Rattle.ir.specs.declared.operands.Operands.{Operands}
-use Rattle.ir.specs.Few.{missing}
 use Rattle.ir.specs.Operands.{pushed}
 use Rattle.operand.specs.declared.ReadOperand.{ReadOperand}
 use Rattle.operand.specs.declared.ReadOperand.the-variants as O
@@ -52,11 +50,6 @@ operandIn b i = pick (eqb (byteAt b i) 1) (Immediate (signedAt w64 b (i + 1))) (
 unfoldable pub operandsIn : List ℕ → ℕ → ℕ → List Operand
 operandsIn b i zero = []
 operandsIn b i (suc k) = operandIn b i ∷ operandsIn b (i + 9) k
-
--- how many they are, and the first three
-unfoldable pub fewAt : List ℕ → ℕ → ℕ → Few
-fewAt b i k =
-    record { count = k; a = pick (ltb 0 k) (operandIn b i) missing; b = pick (ltb 1 k) (operandIn b (i + 9)) missing; c = pick (ltb 2 k) (operandIn b (i + 18)) missing }
 
 -- an operand's bytes
 unfoldable pub operandBytes : Operand → List ℕ

@@ -1,6 +1,5 @@
 // An operand's nine bytes, read and written, and the bytes of operands one after the other.
 use ir::Operand;
-use ir::few::Few;
 use ir::operands;
 use ir::operands::Head;
 use ir::operands::Operands;
@@ -9,11 +8,9 @@ ghost use mathlib.Core.Path.{_≡_};
 ghost use Prim.Native.Nat.{_+_, _*_, _≤_};
 ghost use lib.ListN.{length};
 ghost use Rattle.wire.specs.Le.{store};
-ghost use Rattle.wire.specs.Pick.{pick};
-ghost use Rattle.ir.specs.Few.{missing};
 ghost use Rattle.ir.specs.Operands.{listOf};
 ghost use Rattle.ir.specs.declared.operands.Operands.the-variants.{Zero};
-ghost use Rattle.operand.specs.Operand.{operandAt, operandsAt, isOperand, areOperands, operandIn, fewAt, operandBytes, operandsBytes};
+ghost use Rattle.operand.specs.Operand.{operandAt, operandsAt, isOperand, areOperands, operandIn, operandBytes, operandsBytes};
 
 // ---- read
 
@@ -101,38 +98,6 @@ pub fn operand_in(s: &[u8], i: usize) -> Operand
         return Operand::Var(wire::get_u32(s, i + 1));
     }
     Operand::Var(0)
-}
-
-// The operand that stands so many bytes after i.
-fn operand_after(s: &[u8], i: usize, bytes: usize) -> Operand
-    ensures { λ r. ⌜ r ≡ operandIn (now (s .entry)) (i + bytes) ⌝ }
-{
-    if lies(i, bytes, s.len()) {
-        return operand_in(s, i + bytes);
-    }
-    Operand::Var(0)
-}
-
-// The same where there is one.
-fn kept(there: bool, s: &[u8], i: usize, bytes: usize) -> Operand
-    ensures { λ r. ⌜ r ≡ pick there (operandIn (now (s .entry)) (i + bytes)) missing ⌝ }
-{
-    if there {
-        return operand_after(s, i, bytes);
-    }
-    Operand::Immediate(0)
-}
-
-// How many the k operands from i on are, and the first three.
-pub fn few_at(s: &[u8], i: usize, k: u8) -> Few
-    ensures { λ r. ⌜ r ≡ fewAt (now (s .entry)) i k ⌝ }
-{
-    Few {
-        count: k,
-        a: kept(0 < k, s, i, 0),
-        b: kept(1 < k, s, i, 9),
-        c: kept(2 < k, s, i, 18),
-    }
 }
 
 // ---- written

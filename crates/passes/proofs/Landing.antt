@@ -30,7 +30,7 @@ use Rattle.passes.specs.Notes.{countOf, firstTarget, secondTarget, count
 use Rattle.passes.specs.Tables.{Tables, Endings, unitLanding}
 use Rattle.jumps.specs.Landed.{marked, landedOf, orNext, landedBy, landedAt, landedFrom}
 use Rattle.jumps.specs.declared.Landed.{Landed}
-use Rattle.passes.proofs.Flat.{fine-both}
+use Rattle.passes.proofs.Kept.{fine-both}
 
 -- ---- a block's jumps, by its terminator
 
@@ -125,7 +125,7 @@ module _ (c : Context) (emitted all edges endings counts named numbers : List �
     unfolding landedFrom keepBy jumpsFrom landing landedOf
     landed-walk k j s [] w f = refl
     landed-walk k j s (b ∷ bs) w f =
-        let F = fine-both c (marked emitted) k j true b bs f in
+        let F = fine-both c (marked emitted) k j b bs f in
         by-mark xs (marked emitted k) _ _ _ _ (landed-at xs emitted edges endings counts named numbers k _ _ (b .terminator) (walk-told w xs emitted found)) (landed-walk (suc k) _ _ bs (walk-rest w) (F .second))
         ∙ ap (λ (js : List Jump). landedOf (landing xs js)) (sym (jumps-first c (marked emitted k) j s b (keepBy (marked emitted) (suc k) bs) (F .first)))
 

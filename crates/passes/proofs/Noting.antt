@@ -8,7 +8,7 @@ use native.Mathlib.Numerals.{add-one}
 use native.Mathlib.Omega.{arith}
 use lib.Dec.{ltb}
 use lib.ListN.{length, getD, length-set}
-use lib.Seq.{sets}
+use lib.Seq.{sets, length-sets}
 use Rattle.wire.specs.Pick.{pick, both, either}
 use Rattle.ir.specs.declared.Operand.{Operand}
 use Rattle.ir.specs.declared.Operand.the-variants.{Var, Immediate}
@@ -90,6 +90,13 @@ module _ (vs hs : List ℕ) where
         through-marks (marksAfter vs hs ms t) (mark-length ms t ∙ size) l
         ∙ ap (λ (x : Bool). either x (both (among v vs) (branching l v))) (terminator-marks vs hs fits v ms size t)
         ∙ regroup (conditionFrom 0 vs ms v) (among v vs) (branchesOn t v) (branching l v)
+
+-- noting changes no list's length
+pub note-lengths : {vs hs ms cs ts ms′ cs′ ts′ : List ℕ} {k : ℕ} {t : Terminator} → Notes vs hs k t ms cs ts ms′ cs′ ts′ → (length cs′ ≡ length cs) × (length ts′ ≡ length ts)
+note-lengths {cs = cs} {ts} {k = k} {t} n = (ap length (n .counts) ∙ length-sets cs k (countOf t ∷ []), ap length (n .targets) ∙ length-sets ts (2 * k) (firstTarget t ∷ secondTarget t ∷ []))
+
+pub noted-counts : {bs : List BasicBlock} {vs ms cs ts ms′ cs′ ts′ : List ℕ} → Noted bs vs ms cs ts ms′ cs′ ts′ → length cs′ ≡ length cs
+noted-counts {bs} {cs = cs} n = ap length (n .counts) ∙ length-sets cs 0 (countsOf bs)
 
 -- ---- at block k of n, with the lists ms, cs and ts, which were ms₀, cs₀ and ts₀ at first
 

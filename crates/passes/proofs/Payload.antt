@@ -20,20 +20,16 @@ use Rattle.opcode.specs.declared.Fields.{Fields}
 use Rattle.operand.specs.Operand.{operandIn, operandsIn}
 use Rattle.record.specs.Instruction.{fieldsAt, countAt}
 use Rattle.peek.specs.Terminator.{terminatorIn}
-use Rattle.record.specs.declared.Record.the-variants as R
-use Rattle.unitfile.specs.Records.{nextRecord}
-use Rattle.unitfile.specs.declared.Cursor.{Cursor}
-use Rattle.unitfile.specs.declared.Step.the-variants.{Go}
-use Rattle.unitfile.proofs.Choice.{pick-ind}
-use Rattle.peek.proofs.Peeking.{instruction-in}
+use Rattle.opening.proofs.Choice.{pick-ind}
+use Rattle.peek.proofs.Peeking.{InstructionAt}
 use Rattle.frame.specs.Cell.{Frame}
-use Rattle.frame.specs.Hint.{indexBy, frameBy}
+use Rattle.frame.specs.Hint.{frameBy}
 use Rattle.lower.specs.Instruction.{opcode, instruction, scratchAfter}
 use Rattle.lower.specs.Payload.{operandsOf, instructionIn, scratchIn}
 use Rattle.layout.proofs.Tidy.{Tidy, tidy-opcode}
-use Rattle.passes.specs.Inner.{conditionAt, contextOf}
-use Rattle.passes.specs.Seen.{payloadAt, asked, instructionBy}
-use Rattle.passes.proofs.Part.{byte-drop, unsigned-drop, signed-drop, unsigned-first}
+use Rattle.passes.specs.Inner.{contextOf, conditionIn}
+use Rattle.passes.specs.Places.{payloadAt, instructionBy}
+use Rattle.wire.proofs.Part.{byte-drop, unsigned-drop, signed-drop, unsigned-first}
 
 -- the payload as the code lends it: the part from there to the unit's end
 pub payload-whole : (b : List ℕ) (place : ℕ) → take (length b - (place + 4)) (payloadAt b place) ≡ payloadAt b place
@@ -63,23 +59,23 @@ module _ (b : List ℕ) (k : ℕ) where
   unfolding terminatorIn
   terminator-drop = rw (byte-drop b k 0, add-zero k, operand-drop 1, unsigned-drop b k 1 w32, unsigned-drop b k 10 w32, unsigned-drop b k 14 w32)
 
--- ---- an instruction that was read
+-- ---- the instruction whose record begins at a place
 
-module _ (b : List ℕ) (maps : ℕ) (u d : Cursor) (i : Instruction) (e : nextRecord b maps u ≡ Go (R.Instruction i) d) where
+module _ (b : List ℕ) (place : ℕ) (i : Instruction) (e : InstructionAt b place i) where
   abbrev p : List ℕ
-  p = payloadAt b (u .at)
+  p = payloadAt b place
 
   pub result-is : unsignedAt w32 p 0 ≡ i .result
-  result-is = unsigned-first w32 b (u .at + 4) ∙ sym (instruction-in b maps u d i e .result)
+  result-is = unsigned-first w32 b (place + 4) ∙ sym (e .result)
 
   opcode-is : opcodeIn (fieldsAt p 0) ≡ i .opcode
-  opcode-is = ap opcodeIn (fields-drop b (u .at + 4)) ∙ sym (instruction-in b maps u d i e .opcode)
+  opcode-is = ap opcodeIn (fields-drop b (place + 4)) ∙ sym (e .opcode)
 
-  operands-are : operandsOf p ≡ listOf (i .operands)
+  pub operands-are : operandsOf p ≡ listOf (i .operands)
   unfolding operandsOf countAt
   operands-are =
-      let z : u .at + 4 + 16 ≡ u .at + 20 = omega arith in
-      operands-drop b (u .at + 4) 16 _ ∙ rw (byte-drop b (u .at + 4) 6, z) (sym (instruction-in b maps u d i e .list))
+      let z : place + 4 + 16 ≡ place + 20 = omega arith in
+      operands-drop b (place + 4) 16 _ ∙ rw (byte-drop b (place + 4) 6, z) (sym (e .list))
 
   pub instruction-is : (f : Frame) (j : ℕ) (t : Bool) → instructionIn f j t p ≡ instruction f j t i
   unfolding instructionIn instruction
@@ -100,7 +96,7 @@ module _ (f : Frame) (j : ℕ) (t u : Bool) (result : ℕ) (os : List Operand) w
   abbrev Same : Opcode → Type 0
   Same o = opcode f j t result o os ≡ opcode f j u result o os
 
-  same-opcode : (x : Fields) → eqb (x .code) 7 ≡ false → Same (opcodeIn x)
+  pub same-opcode : (x : Fields) → eqb (x .code) 7 ≡ false → Same (opcodeIn x)
   unfolding opcodeIn opcode
   same-opcode x other =
       pick-ind Same (eqb (x .code) 1) _ _ (λ _. refl)
@@ -121,6 +117,6 @@ unfolding instructionIn fieldsAt
 asked-by f j t p true e = refl
 asked-by f j t p false e = same-opcode f j false t _ _ (fieldsAt p 0) e
 
-pub asked-is : (vs hs ms : List ℕ) (j : ℕ) (p : List ℕ) {t : Bool} → t ≡ asked p (conditionAt vs ms (indexBy vs hs (unsignedAt w32 p 0))) → instructionIn (frameBy vs hs) j t p ≡ instructionBy (contextOf vs hs ms) j p
-unfolding asked instructionBy
+pub asked-is : (vs hs ms : List ℕ) (j : ℕ) (p : List ℕ) {t : Bool} → t ≡ conditionIn (contextOf vs hs ms) p → instructionIn (frameBy vs hs) j t p ≡ instructionBy (contextOf vs hs ms) j p
+unfolding conditionIn instructionBy
 asked-is vs hs ms j p e = ap (λ (t : Bool). instructionIn (frameBy vs hs) j t p) e ∙ asked-by (frameBy vs hs) j _ p (eqb (byteAt p 4) 7) refl

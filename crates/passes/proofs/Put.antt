@@ -1,51 +1,42 @@
 -- Code and relocations written piece by piece.
 use mathlib.Core.Path.{_≡_, refl, sym, ap, _∙_, subst}
-use mathlib.Core.Bool.{Bool, true, false}
+use mathlib.Core.Bool.{true}
 use mathlib.Core.List.{List, [], _∷_, _++_}
 use Prim.Native.Nat.{ℕ, suc, _+_, _*_, _^_, _≤_}
 use native.Mathlib.Omega.{arith}
 use native.Mathlib.Numerals.{add-one, add-two}
 use borrow.Author.Tests.{ltb-true}
-use lib.Dec.{eqb}
 use lib.IntN.{ℤ}
 use lib.Signed.{mag}
 use lib.ListN.{length}
 use lib.Seq.{sets, length-sets}
 use mir.Syntax.{w16, w64}
 use mir.Val.{SFits}
-use Rattle.wire.specs.Pick.{pick}
 use Rattle.wire.specs.Number.{bytesBefore}
 use Rattle.wire.proofs.Store.{store-in}
-use Rattle.ir.specs.declared.Terminator.{Terminator}
 use Rattle.insn.specs.Form.{opcodeOf}
 use Rattle.insn.specs.Layout.{bytesOf}
 use Rattle.insn.specs.declared.Insn.{Insn}
 use Rattle.insn.specs.declared.form.Form.the-variants.{Ja, JneImm}
 use Rattle.insn.proofs.Pieces.{bytes-length}
 use Rattle.opcode.proofs.Opcodes.{both-true}
-use Rattle.peek.specs.Terminator.{terminatorIn}
 use Rattle.lower.specs.Op.{Op, plain, ja, jne, slotsOf, Lowered, becomes, refused}
 use Rattle.lower.specs.Operand.{fits16}
 use Rattle.lower.specs.Step.{mapOps}
-use Rattle.lower.specs.Held.{mapIn, endingOps, held}
-use Rattle.lower.specs.Terminator.{terminator}
-use Rattle.lower.specs.declared.Ending.{Ending}
+use Rattle.lower.specs.Held.{mapIn, held}
 use Rattle.lower.specs.declared.MapUse.the-variants as U
 use Rattle.lower.specs.Put.{wideInsn, zeroInsn, insnsIn, putAt, putLowered}
 use Rattle.lower.specs.declared.Emitted.{Emitted}
-use Rattle.layout.specs.Layout.{Context, laid, at, ops}
-use Rattle.layout.specs.Jumps.{distance}
-use Rattle.layout.specs.Code.{codeBytes, relocations}
+use Rattle.layout.specs.Layout.{at, ops}
+use Rattle.layout.specs.Jumps.{Start, distance}
+use Rattle.layout.specs.Code.{insns, codeBytes, relocations}
 use Rattle.layout.specs.Inner.{plainOps, mapsOf}
 use Rattle.layout.proofs.Tidy.{Tidy}
 use Rattle.layout.proofs.Written.{code-append, code-length}
-use Rattle.passes.specs.Seen.{instructionBy, opsIn}
-use Rattle.passes.specs.declared.State.{State}
 use Rattle.passes.specs.Tables.{relocsBy}
 use Rattle.passes.specs.Put.{insnsTo, jumpOf, reaches, relocationsBy, RoomAt, Relocates, Puts}
 use Rattle.passes.proofs.Lists.{sets-append}
 use Rattle.passes.proofs.Plain.{plain-slots, plain-maps, plain-map}
-use Rattle.passes.proofs.Seen.{Shows}
 
 -- ---- instructions
 
@@ -71,11 +62,10 @@ put-at b at (i ∷ is) h =
     ∙ sym (sets-append b at (bytesOf i) (codeBytes is))
 
 -- plain instructions are themselves, wherever jumps go
-module _ (a b : ℕ) where
-  pub plain-to : (s : ℕ) (is : List Insn) → insnsTo a b s (plainOps is) ≡ is
-  unfolding insnsTo plainOps
-  plain-to s [] = refl
-  plain-to s (i ∷ is) = ap (λ (l : List Insn). i ∷ l) (plain-to (suc s) is)
+plain-insns : (xs : List Start) (s : ℕ) (is : List Insn) → insns xs s (plainOps is) ≡ is
+unfolding insns plainOps
+plain-insns xs s [] = refl
+plain-insns xs s (i ∷ is) = ap (λ (l : List Insn). i ∷ l) (plain-insns xs (suc s) is)
 
 pub plain-relocations : (s : ℕ) (is : List Insn) → relocations s (plainOps is) ≡ []
 unfolding relocations plainOps
@@ -90,28 +80,28 @@ plain-in (i ∷ is) = ap (λ (l : List Insn). i ∷ l) (plain-in is)
 -- ---- what an instruction becomes: a map's load or none, and plain instructions
 
 -- what its lowering answers and puts tells its operations
-pub record Told (a b s : ℕ) (l : List Op) (e : Emitted) : Type 0 where
+pub record Told (xs : List Start) (s : ℕ) (l : List Op) (e : Emitted) : Type 0 where
   pub slots : e .slots ≡ slotsOf l
   pub maps : relocsBy (e .map) ≡ mapsOf l
   pub relocs : relocationsBy s (e .map) ≡ relocations s l
-  pub code : insnsIn l ≡ insnsTo a b s l
+  pub code : insnsIn l ≡ insns xs s l
   pub count : length (insnsIn l) ≡ slotsOf l
 
-module _ (a b s place : ℕ) where
-  told-tidy : {x : Lowered} → Tidy 11 x → Told a b s (ops (at place x)) (held x)
-  unfolding held mapIn at ops mapOps slotsOf mapsOf relocsBy relocationsBy relocations insnsIn insnsTo
+module _ (xs : List Start) (s place : ℕ) where
+  told-tidy : {x : Lowered} → Tidy 11 x → Told xs s (ops (at place x)) (held x)
+  unfolding held mapIn at ops mapOps slotsOf mapsOf relocsBy relocationsBy relocations insnsIn insns wideInsn zeroInsn
   told-tidy (Tidy.some U.Nothing is h) = record {
     slots = refl;
     maps = rw (plain-map is) (sym (plain-maps is));
     relocs = rw (plain-map is) (sym (plain-relocations s is));
-    code = plain-in is ∙ sym (plain-to a b s is);
+    code = plain-in is ∙ sym (plain-insns xs s is);
     count = ap length (plain-in is) ∙ sym (plain-slots is);
   }
   told-tidy (Tidy.some (U.Map m) is h) = record {
     slots = refl;
     maps = ap suc (sym (plain-maps is));
     relocs = ap (λ (l : List ℕ). bytesBefore s ∷ m ∷ l) (sym (plain-relocations (s + 2) is));
-    code = ap (λ (l : List Insn). wideInsn ∷ zeroInsn ∷ l) (plain-in is ∙ sym (plain-to a b (s + 2) is));
+    code = ap (λ (l : List Insn). wideInsn ∷ zeroInsn ∷ l) (plain-in is ∙ sym (plain-insns xs (s + 2) is));
     count = ap (λ (n : ℕ). suc (suc n)) (ap length (plain-in is) ∙ sym (plain-slots is));
   }
   told-tidy (Tidy.none r) = record { slots = refl; maps = refl; relocs = refl; code = refl; count = refl }
@@ -122,13 +112,13 @@ module _ (a b s place : ℕ) where
   put-lowered (refused r) cs = refl
 
   module _ {x : Lowered} {e : Emitted} (tidy : Tidy 11 x) (is : e ≡ held x) where
-    told : Told a b s (ops (at place x)) e
-    told = subst (Told a b s (ops (at place x))) (sym is) (told-tidy tidy)
+    told : Told xs s (ops (at place x)) e
+    told = subst (Told xs s (ops (at place x))) (sym is) (told-tidy tidy)
 
     pub told-room : {t n m : ℕ} → RoomAt (ops (at place x)) s t n m → (s + e .slots ≤ 851969) × (t + 2 * relocsBy (e .map) ≤ m)
     told-room r = (omega (arith, r .few, told .slots), omega (arith, r .relocs, told .maps))
 
-    pub puts-told : {t s′ t′ m : ℕ} {cs rs cs′ rs′ : List ℕ} → RoomAt (ops (at place x)) s t (length cs) m → cs′ ≡ putLowered cs (8 * s) x → Relocates (e .map) (e .slots) s t rs s′ t′ rs′ → Puts a b (ops (at place x)) s t cs rs s′ t′ cs′ rs′
+    pub puts-told : {t s′ t′ m : ℕ} {cs rs cs′ rs′ : List ℕ} → RoomAt (ops (at place x)) s t (length cs) m → cs′ ≡ putLowered cs (8 * s) x → Relocates (e .map) (e .slots) s t rs s′ t′ rs′ → Puts (insns xs) (ops (at place x)) s t cs rs s′ t′ cs′ rs′
     puts-told {t} {cs = cs} {rs} r f p = record {
       slot = p .slot ∙ ap (λ (n : ℕ). s + n) (told .slots);
       reloc = p .reloc ∙ ap (λ (n : ℕ). t + 2 * n) (told .maps);
@@ -165,22 +155,22 @@ module _ (a b s t : ℕ) where
       (rw (add-one s) (x .0), rw (add-two s) (y .0))
 
   module _ (cs rs : List ℕ) where
-    pub puts-none : Puts a b [] s t cs rs s t cs rs
+    pub puts-none : Puts (insnsTo a b) [] s t cs rs s t cs rs
     unfolding insnsTo slotsOf mapsOf relocations codeBytes
     puts-none = record { slot = omega arith; reloc = omega arith; code = refl; relocs = refl }
 
-    pub puts-return : (i j : Insn) {c d : List ℕ} → c ≡ sets cs (8 * s) (codeBytes (i ∷ [])) → d ≡ sets c (8 * (s + 1)) (codeBytes (j ∷ [])) → Puts a b (plain i ∷ plain j ∷ []) s t cs rs (s + 2) t d rs
+    pub puts-return : (i j : Insn) {c d : List ℕ} → c ≡ sets cs (8 * s) (codeBytes (i ∷ [])) → d ≡ sets c (8 * (s + 1)) (codeBytes (j ∷ [])) → Puts (insnsTo a b) (plain i ∷ plain j ∷ []) s t cs rs (s + 2) t d rs
     unfolding insnsTo slotsOf mapsOf relocations
     puts-return i j f g = record { slot = refl; reloc = omega arith; code = joined cs s (s + 1) (i ∷ []) (j ∷ []) refl f g; relocs = refl }
 
-    pub puts-jump : (id : ℕ) {j : Insn} {c : List ℕ} → j ≡ jumpOf (opcodeOf Ja) (distance a s) → c ≡ sets cs (8 * s) (codeBytes (j ∷ [])) → Puts a b (ja id ∷ []) s t cs rs (s + 1) t c rs
+    pub puts-jump : (id : ℕ) {j : Insn} {c : List ℕ} → j ≡ jumpOf (opcodeOf Ja) (distance a s) → c ≡ sets cs (8 * s) (codeBytes (j ∷ [])) → Puts (insnsTo a b) (ja id ∷ []) s t cs rs (s + 1) t c rs
     unfolding insnsTo slotsOf mapsOf relocations
     puts-jump id e f = record { slot = refl; reloc = omega arith; code = f ∙ ap (λ (x : Insn). sets cs (8 * s) (codeBytes (x ∷ []))) e; relocs = refl }
 
     pub puts-branch : (i : Insn) (to other : ℕ) {j k : Insn} {c d e : List ℕ}
         → j ≡ jumpOf (opcodeOf JneImm) (distance a (s + 1)) → k ≡ jumpOf (opcodeOf Ja) (distance b (s + 2))
         → c ≡ sets cs (8 * s) (codeBytes (i ∷ [])) → d ≡ sets c (8 * (s + 1)) (codeBytes (j ∷ [])) → e ≡ sets d (8 * (s + 2)) (codeBytes (k ∷ []))
-        → Puts a b (plain i ∷ jne to ∷ ja other ∷ []) s t cs rs (s + 3) t e rs
+        → Puts (insnsTo a b) (plain i ∷ jne to ∷ ja other ∷ []) s t cs rs (s + 3) t e rs
     unfolding insnsTo slotsOf mapsOf relocations
     puts-branch i to other {j} {k} p q f g h =
         let second = p ∙ ap (λ (n : ℕ). jumpOf (opcodeOf JneImm) (distance a n)) (add-one s) in
@@ -193,34 +183,3 @@ module _ (a b s t : ℕ) where
               ∙ λ x. sets cs (8 * s) (codeBytes (i ∷ second x ∷ third x ∷ []));
           relocs = refl;
         }
-
--- ---- by what the payload of a record shows
-
--- what it becomes does not go by its place
-ops-place : (place : ℕ) (x : Lowered) → ops (at place x) ≡ ops (at 0 x)
-unfolding ops at
-ops-place place (becomes l) = refl
-ops-place place (refused r) = refl
-
-module _ (place : ℕ) (x y : Lowered) where
-  place-by : (t u v : Bool) → ops (pick t (pick u (at place x) (pick v (at place y) (laid []))) (laid [])) ≡ ops (pick t (pick u (at 0 x) (pick v (at 0 y) (laid []))) (laid []))
-  place-by true true v = ops-place place x
-  place-by true false true = ops-place place y
-  place-by true false false = refl
-  place-by false u v = refl
-
-module _ (c : Context) (st : State) (place kind : ℕ) (p : List ℕ) where
-  pub place-apart : ops (opsIn c st place kind p) ≡ ops (opsIn c st 0 kind p)
-  unfolding opsIn
-  place-apart = place-by place _ _ (st .emits) (eqb kind 4) (eqb kind 5)
-
-module _ {c : Context} {st : State} {kind : ℕ} {p : List ℕ} where
-  pub emitted-ops : (j : ℕ) {k : ℕ} → Shows c st 0 kind p (at 0 (instructionBy c j p)) k → ops (opsIn c st 0 kind p) ≡ ops (at 0 (instructionBy c j p))
-  emitted-ops j w = ap ops (w .ops)
-
-  pub ending-ops : {k : ℕ} {t : Terminator} (r : Ending) → Shows c st 0 kind p (at 0 (terminator (c .frame) (terminatorIn p 0))) k → t ≡ terminatorIn p 0 → endingOps r ≡ terminator (c .frame) t → ops (opsIn c st 0 kind p) ≡ ops (at 0 (endingOps r))
-  ending-ops r w e h = ap ops (w .ops) ∙ ap (λ (x : Lowered). ops (at 0 x)) (ap (terminator (c .frame)) (sym e) ∙ sym h)
-
-  pub silent-ops : {k : ℕ} → Shows c st 0 kind p (laid []) k → ops (opsIn c st 0 kind p) ≡ []
-  unfolding ops
-  silent-ops w = ap ops (w .ops)

@@ -19,7 +19,6 @@ use Rattle.unitfile.proofs.Blocks.{blockRecord, instructionRecord, terminatorRe
 use Rattle.peek.proofs.Peeking.{InstructionAt, TerminatorAt, block-in, instruction-in, terminator-in}
 use Rattle.unitfile.proofs.Run.{later, came}
 use Rattle.unitfile.proofs.Sizes.{payloadSize, step-size}
-use Rattle.unitfile.proofs.Units.{unit-of}
 use Rattle.survey.specs.Surveyed.{blocksOf}
 use Rattle.survey.proofs.Bounds.{blocks-flat}
 
@@ -66,6 +65,21 @@ chain-empty (next h k c) l = absurd (omega arith)
 pub chain-first : {b : List ℕ} {end at : ℕ} {is : List PlacedInstruction} → Chain b end at is → at < end → First b end at is
 chain-first done l = absurd (omega arith)
 chain-first (next {i = i} {is = js} h k c) l = record { instruction = i; others = js; are = refl; here = h; chain = c }
+
+-- the bytes tell which they are
+instruction-same : {b : List ℕ} {at : ℕ} {i j : Instruction} → InstructionAt b at i → InstructionAt b at j → i ≡ j
+instruction-same {i = i} {j} h k =
+    let l = sym (h .operands) ∙ k .operands in
+    let operands : i .operands ≡ j .operands = cc in
+    rw (← operands, ← h .opcode ∙ sym (k .opcode), ← h .result ∙ sym (k .result)) refl
+
+pub chain-same : {b : List ℕ} {end at : ℕ} {is js : List PlacedInstruction} → Chain b end at is → Chain b end at js → is ≡ js
+chain-same done d = sym (chain-empty d (omega arith))
+chain-same {at = at} (next {i = i} {is = is} h l c) d =
+    let f = chain-first d l in
+    ap (λ (k : Instruction). record { place = at; instruction = k } ∷ is) (instruction-same h (f .here))
+    ∙ ap (λ (ks : List PlacedInstruction). record { place = at; instruction = f .instruction } ∷ ks) (chain-same c (f .chain))
+    ∙ sym (f .are)
 
 pub standing-head : {b : List ℕ} {at : ℕ} {k : BasicBlock} {ks : List BasicBlock} → Standing b at (k ∷ ks) → BlockAt b at k
 standing-head (more h s) = h
@@ -159,6 +173,3 @@ module _ (b : List ℕ) (maps : ℕ) where
 pub standing : (b : List ℕ) (found : Found) → readUnit b ≡ U.Unit found → Standing b (found .body) (blocksOf (parse b))
 unfolding firstBlock
 standing b found e = stands b (found .head .maps) (blocksOf (parse b)) (firstBlock (found .head) (found .body)) (blocks-flat b found e)
-
-pub unit-short : (b : List ℕ) (found : Found) → readUnit b ≡ U.Unit found → length b ≤ 262144
-unit-short b found e = unit-of b found e .short

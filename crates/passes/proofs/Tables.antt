@@ -23,14 +23,15 @@ use Rattle.survey.proofs.Sorted.{all-fits}
 use Rattle.flow.specs.Node.{Node}
 use Rattle.flow.specs.Computed.{isReached}
 use Rattle.flow.specs.Linked as flow
-use Rattle.flow.specs.Linked.{targetsAt, numberFrom, linkedTargets, linkedFlags}
+use Rattle.flow.specs.Linked.{targetsAt, numberFrom, linkedTargets, linkedFlags, room}
 use Rattle.flow.proofs.Numbers.{blockAt, nodes-are}
 use Rattle.flow.proofs.Laws.{linked-target, linked-flag}
+use Rattle.flow.proofs.Room.{room-true}
 use Rattle.layout.specs.Emitted.{targets, nodes}
 use Rattle.unitfile.specs.declared.Found.{Found}
 use Rattle.jumps.specs.Landed.{marked}
 use Rattle.passes.specs.Notes.{countOf, firstTarget, secondTarget, countsOf, pairsOf, Noted}
-use Rattle.passes.specs.Stages.{Surveyed, Linked}
+use Rattle.passes.specs.Stages.{Spacious, Surveyed, Linked}
 
 -- ---- a list that stands at the front of another
 
@@ -60,8 +61,7 @@ module _ (b l : List ℕ) {found : Found} {n : ℕ} {vs : List ℕ} (answer : su
       let u = unit-means b found n answer in
       omega (arith, u .count, all-fits _ _ (u .collects) .few, ap length variables, length-sets l 0 (survey.variablesOf (collected (blocksOf (parse b)))))
 
-  pub surveyed : (is₀ es₀ : List ℕ) {is es : List ℕ} {k : ℕ} → k ≡ n → is ≡ survey.surveyedIds b is₀ → es ≡ survey.surveyedEndings b es₀ → length is₀ ≡ 1024 → length es₀ ≡ 1024 → Surveyed b found (take k vs) is es
-  unfolding survey.surveyedIds survey.surveyedEndings
+  pub surveyed : (is₀ es₀ : List ℕ) {is es : List ℕ} {k : ℕ} → k ≡ n → is ≡ survey.surveyedIds b is₀ → es ≡ survey.surveyedEndings b es₀ → length (blocksOf (parse b)) ≤ length is₀ → length (blocksOf (parse b)) ≤ length es₀ → Surveyed b found (take k vs) is es
   surveyed is₀ es₀ {k = k} part p q h e =
       let u = unit-means b found n answer in
       record {
@@ -69,8 +69,19 @@ module _ (b l : List ℕ) {found : Found} {n : ℕ} {vs : List ℕ} (answer : su
         collects = u .collects ∙ ap all (sym (ap (λ (j : ℕ). take j vs) part ∙ ap (take n) variables ∙ front-variables b l u size));
         ids = ap (take (length (blocksOf (parse b)))) p ∙ front-ids b is₀ h;
         endings = ap (take (length (blocksOf (parse b)))) q ∙ front-endings b es₀ e;
-        ids-size = ap length p ∙ length-sets is₀ 0 (survey.ids (blocksOf (parse b))) ∙ h;
       }
+
+-- lists that hold the blocks still do
+pub surveyed-spacious : (b is₀ es₀ : List ℕ) {is es : List ℕ} {n cs ts ns em ls : ℕ} → is ≡ survey.surveyedIds b is₀ → es ≡ survey.surveyedEndings b es₀ → Spacious n (length is₀) (length es₀) cs ts ns em ls → Spacious n (length is) (length es) cs ts ns em ls
+unfolding survey.surveyedIds survey.surveyedEndings
+surveyed-spacious b is₀ es₀ p q s =
+    let x = ap length p ∙ length-sets is₀ 0 (survey.ids (blocksOf (parse b))) in
+    let y = ap length q ∙ length-sets es₀ 0 (survey.endings (blocksOf (parse b))) in
+    record { ids = omega (arith, x, s .ids); endings = omega (arith, y, s .endings); counts = s .counts; named = s .named; numbers = s .numbers; emitted = s .emitted; most = s .most; edges = s .edges }
+
+-- lists for m blocks
+pub spacious : (n m : ℕ) → n ≤ m → m ≤ 1024 → Spacious n m m m (2 * m) (2 * m) m (m + 1)
+spacious n m h k = record { ids = h; endings = h; counts = h; named = omega arith; numbers = omega arith; emitted = h; most = k; edges = omega arith }
 
 -- ---- a unit's blocks for control flow, by the lists of their counts and targets
 
@@ -126,56 +137,77 @@ flag-is : (t : Bool) → eqb (pick t 1 0) 1 ≡ t
 flag-is true = refl
 flag-is false = refl
 
-module _ (em : List ℕ) {b : List ℕ} {found : Found} {vs is es ms cs ts ms′ counts named numbers emitted : List ℕ} {n : ℕ} (s : Surveyed b found vs is es) (k : Noted (blocksOf (parse b)) vs ms cs ts ms′ counts named) (size : length cs ≡ 1024) (room : length ts ≡ 2048) (most : length em ≡ 1024) (whole : n ≡ length (blocksOf (parse b))) (links : numbers ≡ linkedTargets n is named) (flags : emitted ≡ linkedFlags n is counts named em) where
+-- aimed: the ids that are named, which become numbers
+module _ (em : List ℕ) {b : List ℕ} {found : Found} {vs is es ms cs ts ns ms′ counts named aimed numbers emitted : List ℕ} {n edges : ℕ} (s : Surveyed b found vs is es) (p : Spacious (length (blocksOf (parse b))) (length is) (length es) (length cs) (length ts) (length ns) (length em) edges) (k : Noted (blocksOf (parse b)) vs ms cs ts ms′ counts named) (j : Noted (blocksOf (parse b)) vs ms cs ns ms′ counts aimed) (whole : n ≡ length (blocksOf (parse b))) (links : numbers ≡ pick (room n is counts aimed em) (linkedTargets n is aimed) aimed) (flags : emitted ≡ pick (room n is counts aimed em) (linkedFlags n is counts aimed em) em) where
   abbrev bs : List BasicBlock
   bs = blocksOf (parse b)
 
-  named-size : length named ≡ 2048
-  named-size = ap length (k .targets) ∙ length-sets ts 0 (pairsOf bs) ∙ room
+  counts-size : length counts ≡ length cs
+  counts-size = ap length (k .counts) ∙ length-sets cs 0 (countsOf bs)
+
+  aimed-size : length aimed ≡ length ns
+  aimed-size = ap length (j .targets) ∙ length-sets ns 0 (pairsOf bs)
 
   counts-at : (i : ℕ) → i < length bs → getD counts i 0 ≡ getD (countsOf bs) i 0
   counts-at i h =
       let l = counts-length bs in
-      ap (λ (x : List ℕ). getD x i 0) (k .counts) ∙ stored-at (countsOf bs) cs i (omega (arith, few-blocks b)) (omega arith)
+      ap (λ (x : List ℕ). getD x i 0) (k .counts) ∙ stored-at (countsOf bs) cs i (omega (arith, p .counts)) (omega arith)
 
   named-at : (i : ℕ) → i < 2 * length bs → getD named i 0 ≡ getD (pairsOf bs) i 0
   named-at i h =
       let l = pairs-length bs in
-      ap (λ (x : List ℕ). getD x i 0) (k .targets) ∙ stored-at (pairsOf bs) ts i (omega (arith, few-blocks b)) (omega arith)
+      ap (λ (x : List ℕ). getD x i 0) (k .targets) ∙ stored-at (pairsOf bs) ts i (omega (arith, p .named)) (omega arith)
+
+  aimed-at : (i : ℕ) → i < 2 * length bs → getD aimed i 0 ≡ getD (pairsOf bs) i 0
+  aimed-at i h =
+      let l = pairs-length bs in
+      ap (λ (x : List ℕ). getD x i 0) (j .targets) ∙ stored-at (pairsOf bs) ns i (omega (arith, p .numbers)) (omega arith)
+
+  roomy : room n is counts aimed em ≡ true
+  roomy =
+      let x = counts-size in
+      let y = aimed-size in
+      room-true n is counts aimed em (omega (arith, whole, few-blocks b)) (omega (arith, whole, p .ids)) (omega (arith, whole, p .counts)) (omega (arith, whole, p .numbers)) (omega (arith, whole, p .emitted))
+
+  links-all : numbers ≡ linkedTargets n is aimed
+  links-all = links ∙ ap (λ (t : Bool). pick t (linkedTargets n is aimed) aimed) roomy
+
+  flags-all : emitted ≡ linkedFlags n is counts aimed em
+  flags-all = flags ∙ ap (λ (t : Bool). pick t (linkedFlags n is counts aimed em) em) roomy
 
   front-is : take n is ≡ survey.ids bs
-  front-is = ap (λ (j : ℕ). take j is) whole ∙ s .ids
+  front-is = ap (λ (i : ℕ). take i is) whole ∙ s .ids
 
-  same-nodes : flow.nodes (take n is) counts named ≡ nodes bs
-  same-nodes = ap (λ (l : List ℕ). flow.nodes l counts named) front-is ∙ nodes-same bs counts named counts-at named-at
+  same-nodes : flow.nodes (take n is) counts aimed ≡ nodes bs
+  same-nodes = ap (λ (l : List ℕ). flow.nodes l counts aimed) front-is ∙ nodes-same bs counts aimed counts-at aimed-at
 
   agrees : (i : ℕ) → i < length bs → marked emitted i ≡ isReached (nodes bs) (getD (survey.ids bs) i 0)
   unfolding marked
   agrees i h =
-      ap (λ (x : List ℕ). eqb (getD x i 0) 1) flags
-      ∙ ap (λ (x : ℕ). eqb x 1) (linked-flag n is counts named em (omega (arith, few-blocks b, s .ids-size)) (omega (arith, few-blocks b)) i (omega arith))
-      ∙ flag-is (isReached (flow.nodes (take n is) counts named) (getD is i 0))
+      ap (λ (x : List ℕ). eqb (getD x i 0) 1) flags-all
+      ∙ ap (λ (x : ℕ). eqb x 1) (linked-flag n is counts aimed em (omega (arith, whole, p .ids)) (omega (arith, whole, p .emitted)) i (omega (arith, whole)))
+      ∙ flag-is (isReached (flow.nodes (take n is) counts aimed) (getD is i 0))
       ∙ ap (λ (ns : List Node). isReached ns (getD is i 0)) same-nodes
       ∙ ap (isReached (nodes bs)) (front-at is (survey.ids bs) (length bs) i (s .ids) h)
 
-  emitted-size : length emitted ≡ 1024
+  emitted-size : length emitted ≡ length em
   unfolding linkedFlags
-  emitted-size = ap length flags ∙ length-sets em 0 (flow.flags (flow.nodes (take n is) counts named) (take n is)) ∙ most
+  emitted-size = ap length flags-all ∙ length-sets em 0 (flow.flags (flow.nodes (take n is) counts aimed) (take n is))
 
   past : marked emitted 1024 ≡ false
   unfolding marked
-  past = ap (λ (x : ℕ). eqb x 1) (List·getD-eq-default emitted 0 {n = 1024} (omega (arith, emitted-size)))
+  past = ap (λ (x : ℕ). eqb x 1) (List·getD-eq-default emitted 0 {n = 1024} (omega (arith, emitted-size, p .most)))
 
-  numbers-size : length numbers ≡ 2048
+  numbers-size : length numbers ≡ length ns
   unfolding linkedTargets
-  numbers-size = ap length links ∙ length-sets named 0 (flow.numbers (take n is) (take (2 * n) named)) ∙ named-size
+  numbers-size = ap length links-all ∙ length-sets aimed 0 (flow.numbers (take n is) (take (2 * n) aimed)) ∙ aimed-size
 
   number : (i : ℕ) → i < 2 * length bs → getD numbers i 0 ≡ numberFrom 0 (survey.ids bs) (getD (pairsOf bs) i 0)
   number i h =
-      ap (λ (x : List ℕ). getD x i 0) links
-      ∙ linked-target n is named (omega (arith, few-blocks b, named-size)) i (omega arith)
-      ∙ ap (λ (l : List ℕ). numberFrom 0 l (getD named i 0)) front-is
-      ∙ ap (numberFrom 0 (survey.ids bs)) (named-at i h)
+      ap (λ (x : List ℕ). getD x i 0) links-all
+      ∙ linked-target n is aimed (omega (arith, whole, aimed-size, p .numbers)) i (omega (arith, whole))
+      ∙ ap (λ (l : List ℕ). numberFrom 0 l (getD aimed i 0)) front-is
+      ∙ ap (numberFrom 0 (survey.ids bs)) (aimed-at i h)
 
   pub linked : Linked bs emitted numbers es counts named
   linked =
@@ -185,6 +217,6 @@ module _ (em : List ℕ) {b : List ℕ} {found : Found} {vs is es ms cs ts ms′
         past = past;
         number = number;
         told = record { ending = λ i h. front-at es (survey.endings bs) (length bs) i (s .endings) h; count = counts-at; names = named-at };
-        emitted-size = emitted-size;
-        numbers-size = numbers-size;
+        emitted-size = omega (arith, emitted-size, p .emitted);
+        numbers-size = omega (arith, numbers-size, p .numbers);
       }

@@ -1,4 +1,4 @@
--- Where the jumps of a record go: its code with the slots that the tables tell is its code by the emitted blocks, and every distance is in range.
+-- Where the jumps of a terminator go: its code with the slots that the tables tell is its code by the emitted blocks, and every distance is in range.
 use mathlib.Core.Path.{_≡_, refl, sym, ap, _∙_}
 use mathlib.Core.Bool.{Bool, true, false}
 use mathlib.Core.List.{List, [], _∷_, _++_}
@@ -16,8 +16,6 @@ use Rattle.ir.specs.declared.Terminator.the-variants as T
 use Rattle.insn.specs.declared.Insn.{Insn}
 use Rattle.insn.specs.declared.form.Form.{Form}
 use Rattle.insn.specs.declared.form.Form.the-variants.{Exit}
-use Rattle.record.specs.declared.Record.{Record}
-use Rattle.record.specs.declared.Record.the-variants as R
 use Rattle.unitfile.specs.Unit.{BasicBlock}
 use Rattle.frame.specs.Cell.{Frame}
 use Rattle.frame.specs.declared.Cell.{Cell}
@@ -27,27 +25,20 @@ use Rattle.flow.specs.Linked.{numberFrom}
 use Rattle.flow.proofs.Numbers.{Here, number-law}
 use Rattle.survey.specs.Surveyed.{ids}
 use Rattle.survey.proofs.Flat.{ids-count}
-use Rattle.lower.specs.Op.{Op, plain, ja, jne, Lowered, becomes, refused, insn, _▸_}
+use Rattle.lower.specs.Op.{plain, ja, jne, Lowered, becomes, refused, insn, _▸_}
 use Rattle.lower.specs.Operand.{fits16, fits32, constant, onCell, load}
 use Rattle.lower.specs.Terminator.{terminator}
-use Rattle.lower.specs.Step.{mapOps}
 use Rattle.lower.specs.declared.Reason.{Reason}
-use Rattle.lower.specs.declared.MapUse.the-variants as U
-use Rattle.lower.specs.Put.{wideInsn, zeroInsn}
 use Rattle.layout.specs.Emitted.{nodes}
-use Rattle.layout.specs.Layout.{Context, laid, at, ops}
+use Rattle.layout.specs.Layout.{Context, at, ops}
 use Rattle.layout.specs.Jumps.{Start, starts, Target, to, nowhere, lastStart, distance, Jump, jas, jnes, patches, Landing, lands, noTarget, tooFar, onTarget, orRest, landing}
 use Rattle.layout.specs.Code.{distanceTo, insns}
 use Rattle.layout.specs.Inner as layout
-use Rattle.layout.specs.Inner.{keepBy, plainOps}
-use Rattle.layout.proofs.Tidy.{Tidy, tidy-instruction}
+use Rattle.layout.specs.Inner.{keepBy}
 use Rattle.layout.proofs.Located.{located}
-use Rattle.passes.specs.Inner.{becoming, recordOps, jumping, recordJumps}
 use Rattle.passes.specs.Notes.{firstTarget, secondTarget, pairsOf}
 use Rattle.passes.specs.Tables.{Tables}
-use Rattle.passes.specs.Put.{slotTo, insnsTo, reaches}
-use Rattle.passes.specs.declared.State.{State}
-use Rattle.passes.proofs.Put.{plain-to}
+use Rattle.passes.specs.Put.{slotTo, insnsTo, reaches, Written}
 
 -- ---- jumps that land
 
@@ -83,33 +74,6 @@ lands-by : (t : Bool) (j : Jump) (a : ℕ) (l : Target) → l ≡ pick t (to a) 
 unfolding onTarget
 lands-by true j a l e h = record { is = e; near = in-range (fits16 (distance a (j .own))) _ _ (ap (onTarget j) (sym e) ∙ h) }
 lands-by false j a l e h = let y = ap (onTarget j) (sym e) ∙ h in let z : _≡_ {A = ℕ} 0 1 = cc in absurd (omega arith)
-
--- ---- operations whose code is told by the slots a and b
-
-pub record Written (xs : List Start) (a b s : ℕ) (l : List Op) : Type 0 where
-  pub code : insnsTo a b s l ≡ insns xs s l
-  pub reach : reaches a b s l ≡ true
-
-module _ (xs : List Start) (a b : ℕ) where
-  plain-insns : (s : ℕ) (is : List Insn) → insns xs s (plainOps is) ≡ is
-  unfolding insns plainOps
-  plain-insns s [] = refl
-  plain-insns s (i ∷ is) = ap (λ (l : List Insn). i ∷ l) (plain-insns (suc s) is)
-
-  plain-reaches : (s : ℕ) (is : List Insn) → reaches a b s (plainOps is) ≡ true
-  unfolding reaches plainOps
-  plain-reaches s [] = refl
-  plain-reaches s (i ∷ is) = plain-reaches (suc s) is
-
-  written-none : (s : ℕ) → Written xs a b s []
-  unfolding insnsTo insns reaches
-  written-none s = record { code = refl; reach = refl }
-
-  written-tidy : (s place : ℕ) {x : Lowered} → Tidy 11 x → Written xs a b s (ops (at place x))
-  unfolding ops at mapOps insnsTo insns reaches wideInsn zeroInsn
-  written-tidy s place (Tidy.some U.Nothing is h) = record { code = plain-to a b s is ∙ sym (plain-insns s is); reach = plain-reaches s is }
-  written-tidy s place (Tidy.some (U.Map m) is h) = record { code = rw (plain-to a b (s + 2) is, plain-insns (s + 2) is); reach = plain-reaches (s + 2) is }
-  written-tidy s place (Tidy.none r) = record { code = refl; reach = refl }
 
 -- ---- a terminator's operations
 
@@ -172,20 +136,8 @@ module _ (xs : List Start) (a b place s : ℕ) where
       record { code = rw (l .is, m .is) refl; reach = rw (l .near, m .near) refl }
   written-ends (Ends.none t r) p q h = record { code = refl; reach = refl }
 
-  -- ---- a record's
-
-  written-by : (c : Context) (j : ℕ) (t : Bool) (r : Record) → ((u : Terminator) → r ≡ R.Terminator u → Leads xs (firstTarget u) a × Leads xs (secondTarget u) b) → landing xs (pick t (jumping c place s r) []) ≡ lands → Written xs a b s (ops (pick t (becoming c j place r) (laid [])))
-  unfolding jumping becoming ops
-  written-by c j false r p h = written-none xs a b s
-  written-by c j true (R.Head x) p h = written-none xs a b s
-  written-by c j true (R.Map start len) p h = written-none xs a b s
-  written-by c j true (R.Block id) p h = written-none xs a b s
-  written-by c j true (R.Instruction i) p h = written-tidy xs a b s place (tidy-instruction (c .frame) j (c .condition (i .result)) i)
-  written-by c j true (R.Terminator u) p h = let l = p u refl in written-ends (ends (c .frame) u) (l .0) (l .1) h
-
-  pub written-record : (c : Context) (st : State) (r : Record) → ((u : Terminator) → r ≡ R.Terminator u → Leads xs (firstTarget u) a × Leads xs (secondTarget u) b) → landing xs (recordJumps c st place s r) ≡ lands → Written xs a b s (ops (recordOps c st place r))
-  unfolding recordJumps recordOps
-  written-record c st r p h = written-by c (st .scratch) (st .emits) r p h
+  pub written-terminator : (f : Frame) (t : Terminator) → Leads xs (firstTarget t) a → Leads xs (secondTarget t) b → landing xs (patches place s (ops (at place (terminator f t)))) ≡ lands → Written xs a b s (ops (at place (terminator f t)))
+  written-terminator f t p q h = written-ends (ends f t) p q h
 
 -- ---- by the tables
 

@@ -1,6 +1,6 @@
 pub mod Inner
-pub mod Seen
 pub mod Notes
 pub mod Tables
 pub mod Put
+pub mod Places
 pub mod Stages

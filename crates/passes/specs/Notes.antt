@@ -9,8 +9,6 @@ use Rattle.ir.specs.declared.Operand.{Operand}
 use Rattle.ir.specs.declared.Operand.the-variants.{Var, Immediate}
 use Rattle.ir.specs.declared.Terminator.{Terminator}
 use Rattle.ir.specs.declared.Terminator.the-variants.{Return, Jump, Branch}
-use Rattle.record.specs.declared.Record.{Record}
-use Rattle.record.specs.declared.Record.the-variants as R
 use Rattle.peek.specs.Terminator.{terminatorIn}
 use Rattle.unitfile.specs.Unit.{BasicBlock, parse}
 use Rattle.frame.specs.Hint.{indexBy}
@@ -52,14 +50,6 @@ countsOf (b ∷ bs) = countOf (b .terminator) ∷ countsOf bs
 unfoldable pub pairsOf : List BasicBlock → List ℕ
 pairsOf [] = []
 pairsOf (b ∷ bs) = firstTarget (b .terminator) ∷ secondTarget (b .terminator) ∷ pairsOf bs
-
--- the terminator of a record, or none
-unfoldable pub closing : Record → List Terminator
-closing (R.Head h) = []
-closing (R.Map start len) = []
-closing (R.Block id) = []
-closing (R.Instruction i) = []
-closing (R.Terminator t) = t ∷ []
 
 -- the terminators of the n blocks from block k on, by the places of their records
 unfoldable pub closingsAt : List ℕ → List ℕ → ℕ → ℕ → List Terminator

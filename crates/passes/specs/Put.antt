@@ -1,4 +1,4 @@
--- What the writing pass puts for one record: its operations at a slot, with the slots at which its targets begin.
+-- What the writing pass puts: operations at a slot, with the slots at which the targets of jumps begin.
 use mathlib.Core.Path.{_≡_}
 use mathlib.Core.Bool.{Bool, true}
 use mathlib.Core.List.{List, [], _∷_}
@@ -16,8 +16,8 @@ use Rattle.lower.specs.Operand.{fits16}
 use Rattle.lower.specs.Put.{wideInsn, zeroInsn}
 use Rattle.lower.specs.declared.MapUse.{MapUse}
 use Rattle.lower.specs.declared.MapUse.the-variants as M
-use Rattle.layout.specs.Jumps.{distance}
-use Rattle.layout.specs.Code.{codeBytes, relocations}
+use Rattle.layout.specs.Jumps.{Start, distance}
+use Rattle.layout.specs.Code.{insns, codeBytes, relocations}
 use Rattle.layout.specs.Inner.{mapsOf}
 use Rattle.passes.specs.Tables.{relocsBy}
 
@@ -65,9 +65,14 @@ pub record Relocates (m : MapUse) (n s t : ℕ) (rs : List ℕ) (s′ t′ : ℕ
   pub reloc : t′ ≡ t + 2 * relocsBy m
   pub relocs : rs′ ≡ sets rs t (relocationsBy s m)
 
--- the operations are put there
-pub record Puts (a b : ℕ) (l : List Op) (s t : ℕ) (cs rs : List ℕ) (s′ t′ : ℕ) (cs′ rs′ : List ℕ) : Type 0 where
+-- the operations are put there, as the instructions that they are from a slot on
+pub record Puts (become : ℕ → List Op → List Insn) (l : List Op) (s t : ℕ) (cs rs : List ℕ) (s′ t′ : ℕ) (cs′ rs′ : List ℕ) : Type 0 where
   pub slot : s′ ≡ s + slotsOf l
   pub reloc : t′ ≡ t + 2 * mapsOf l
-  pub code : cs′ ≡ sets cs (8 * s) (codeBytes (insnsTo a b s l))
+  pub code : cs′ ≡ sets cs (8 * s) (codeBytes (become s l))
   pub relocs : rs′ ≡ sets rs t (relocations s l)
+
+-- from slot s on, with the slots a and b they are the instructions that they are by the emitted blocks, and every distance is in range
+pub record Written (xs : List Start) (a b s : ℕ) (l : List Op) : Type 0 where
+  pub code : insnsTo a b s l ≡ insns xs s l
+  pub reach : reaches a b s l ≡ true

@@ -5,11 +5,16 @@ use mathlib.Core.List.{List}
 use Prim.Native.Nat.{ℕ, _*_, _≤_, _<_}
 use lib.ListN.{length, getD}
 use lib.Seq.{sets}
+use Rattle.wire.specs.Pick.{pick}
+use Rattle.ir.specs.declared.Operand.{Operand}
+use Rattle.ir.specs.declared.Operand.the-variants.{Var, Immediate}
 use Rattle.unitfile.specs.Unit.{BasicBlock}
 use Rattle.flow.specs.Computed.{isReached}
 use Rattle.flow.specs.Linked.{numberFrom}
 use Rattle.survey.specs.Surveyed as survey
 use Rattle.lower.specs.Op.{Op, slotsOf}
+use Rattle.lower.specs.Operand.{fits32}
+use Rattle.lower.specs.declared.Reason.the-variants as Re
 use Rattle.lower.specs.declared.Outcome.{Outcome}
 use Rattle.lower.specs.declared.Outcome.the-variants as O
 use Rattle.lower.specs.declared.MapUse.{MapUse}
@@ -22,7 +27,6 @@ use Rattle.layout.specs.Inner as layout
 use Rattle.layout.specs.Inner.{keepBy, mapsOf}
 use Rattle.passes.specs.Notes.{countsOf, pairsOf}
 use Rattle.passes.specs.declared.Size.{Size}
-use Rattle.passes.specs.declared.Taken.{Taken}
 use Rattle.passes.specs.declared.Size.the-variants as S
 
 -- how many slots and relocations there are, or the first refusal and its place
@@ -42,15 +46,15 @@ sizeOn place (O.Refused r) m n = S.Refused place r
 unfoldable pub sizeBy : ℕ → Emitted → Size
 sizeBy place e = sizeOn place (e .outcome) (e .map) (e .slots)
 
+-- of a terminator that loads an operand: a constant outside i32 is refused, and a variable is told to have a cell
+unfoldable pub loadSize : ℕ → Operand → ℕ → Size
+loadSize place (Var v) n = S.Slots n 0
+loadSize place (Immediate z) n = pick (fits32 z) (S.Slots n 0) (S.Refused place (Re.Immediate z))
+
 -- of one record: a map's load and eleven instructions at most
 pub record Sized (l : Laid) (r : Size) : Type 0 where
   pub size : r ≡ sizeOf l
   pub few : (n m : ℕ) → r ≡ S.Slots n m → (n ≤ 13) × (m ≤ 1)
-
--- and the scratch ring's position after it
-pub record Takes (l : Laid) (j : ℕ) (r : Taken) : Type 0 where
-  pub size : Sized l (r .size)
-  pub scratch : r .scratch ≡ j
 
 -- ls: the slots at which the blocks begin, then the slot after the last
 pub record Measured (c : Context) (e : ℕ → Bool) (bs : List BasicBlock) (ls : List ℕ) (r : Size) (ls′ : List ℕ) : Type 0 where

@@ -8,15 +8,14 @@ use borrow.Author.Tests.{lt-ltb, le-ltb, le-leb}
 use lib.ListN.{length}
 use mir.Syntax.{w32}
 use Rattle.wire.specs.Le.{unsignedAt}
-use Rattle.ir.specs.Few.{fewOf}
 use Rattle.ir.specs.Operands.{listOf}
 use Rattle.ir.specs.declared.Instruction.{Instruction}
 use Rattle.ir.specs.declared.Terminator.{Terminator}
 use Rattle.ir.specs.declared.operands.Operands.the-variants.{Zero}
 use Rattle.opcode.specs.Opcode.{opcodeIn}
-use Rattle.operand.specs.Operand.{operandsAt, operandsIn, fewAt}
+use Rattle.operand.specs.Operand.{operandsAt, operandsIn}
 use Rattle.operand.specs.declared.ReadOperands.the-variants as L
-use Rattle.operand.proofs.OperandIn.{operands-read, few-read}
+use Rattle.operand.proofs.OperandIn.{operands-read}
 use Rattle.record.specs.Frame.{lengthAt, kindAt, wholeAt, nextAt}
 use Rattle.record.specs.Instruction.{fieldsAt, countAt}
 use Rattle.record.specs.Terminator.{terminatorSize}
@@ -80,7 +79,6 @@ pub record InstructionAt (b : List ℕ) (at : ℕ) (i : Instruction) : Type 0 wh
   pub opcode : i .opcode ≡ opcodeIn (fieldsAt b (at + 4))
   pub operands : operandsAt Zero b (at + 20) (countAt b (at + 4)) ≡ L.Is (i .operands)
   pub list : listOf (i .operands) ≡ operandsIn b (at + 20) (countAt b (at + 4))
-  pub few : fewOf (listOf (i .operands)) ≡ fewAt b (at + 20) (countAt b (at + 4))
   pub count : countAt b (at + 4) ≤ 8
   pub whole : at + 20 + 9 * countAt b (at + 4) ≤ length b
 
@@ -105,7 +103,6 @@ module _ (b : List ℕ) (maps : ℕ) (c d : Cursor) where
         opcode = p .opcode;
         operands = o;
         list = operands-read b (c .at + 20) (countAt b (c .at + 4)) (i .operands) (p .few) o;
-        few = sym (few-read b (c .at + 20) (countAt b (c .at + 4)) (i .operands) (p .few) o);
         count = p .few;
         whole = omega (arith, t .within, t .ends, p .size);
       }

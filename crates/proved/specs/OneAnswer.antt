@@ -9,7 +9,9 @@ use Rattle.opcode.proofs as opcode
 use Rattle.operand.proofs as operand
 use Rattle.record.proofs as reader
 use Rattle.recordcheck.proofs as recordcheck
+use Rattle.payloadwriter.proofs as payloadwriter
 use Rattle.recordwriter.proofs as recordwriter
+use Rattle.opening.proofs as opening
 use Rattle.unitfile.proofs as unitfile
 use Rattle.peek.proofs as peek
 use Rattle.frame.proofs as frame
@@ -89,7 +91,6 @@ pub record OneAnswer : Type 0 where
   pub operand-is-operand : DecidesAnswer operand.is_operand.Reads.Post
   pub operand-are-operands : DecidesAnswer operand.are_operands.Reads.Post
   pub operand-operand-in : DecidesAnswer operand.operand_in.Reads.Post
-  pub operand-few-at : DecidesAnswer operand.few_at.Reads.Post
   pub operand-put-operand : Decides operand.put_operand.Reads.Post (λ κ r (b, _). now b)
   pub operand-put-operands : Decides operand.put_operands.Reads.Post (λ κ r (b, _). now b)
   pub record-refusal : DecidesAnswer reader.refusal.Reads.Post
@@ -104,8 +105,14 @@ pub record OneAnswer : Type 0 where
   pub record-sized : DecidesAnswer reader.instruction.sized.Reads.Post
   pub record-fields-at : DecidesAnswer reader.instruction.fields_at.Reads.Post
   pub recordcheck-check-record : DecidesAnswer recordcheck.check_record.Reads.Post
+  pub payloadwriter-put-instruction : Decides payloadwriter.put_instruction.Reads.Post (λ κ r (b, _). now b)
+  pub payloadwriter-terminator-size : DecidesAnswer payloadwriter.terminator_size.Reads.Post
+  pub payloadwriter-put-terminator : Decides payloadwriter.put_terminator.Reads.Post (λ κ r (b, _). now b)
   pub recordwriter-refusal : DecidesAnswer recordwriter.refusal.Reads.Post
   pub recordwriter-write-record : Decides recordwriter.write_record.Reads.Post (λ κ r (_, (_, (_, (buffer, _)))). r and now buffer)
+  pub opening-head-at : DecidesAnswer opening.head_at.Reads.Post
+  pub opening-map-from : DecidesAnswer opening.map_from.Reads.Post
+  pub opening-open-unit : DecidesAnswer opening.open_unit.Reads.Post
   pub unitfile-after : DecidesAnswer unitfile.after.Reads.Post
   pub unitfile-next-record : DecidesAnswer unitfile.next_record.Reads.Post
   pub unitfile-read-unit : DecidesAnswer unitfile.read_unit.Reads.Post

@@ -1,24 +1,14 @@
--- The pieces of an instruction, and a name written byte by byte.
-use mathlib.Core.Path.{_≡_, refl, sym, ap, _∙_}
-use mathlib.Core.List.{List, [], _∷_, _++_, append-assoc}
+-- A name written byte by byte.
+use mathlib.Core.Path.{_≡_, sym, ap, _∙_}
+use mathlib.Core.List.{List, _∷_}
 use Prim.Native.Nat.{ℕ, suc, _+_, _-_, _<_, _≤_}
 use native.Mathlib.Omega.{arith}
 use lib.ListN.{length, getD, set, take, drop, length-set}
 use lib.Seq.{sets, drop-cons}
-use mir.Syntax.{w32}
-use Rattle.wire.specs.Le.{unsignedBytes, signedBytes, store}
+use Rattle.wire.specs.Le.{store}
 use Rattle.wire.proofs.Store.{store-in}
-use Rattle.ir.specs.declared.Operand.{Operand}
-use Rattle.opcode.specs.declared.Fields.{Fields}
-use Rattle.operand.specs.Operand.{operandsBytes}
 use Rattle.operand.proofs.Pieces.{nothing}
-use Rattle.recordwriter.specs.Bytes.{instructionBytes}
 use Rattle.recordwriter.proofs.Length.{part-length}
-
--- an instruction's pieces, of which n is the operand count
-pub instruction-pieces : (result : ℕ) (f : Fields) (n : ℕ) (os : List Operand) → n ≡ length os → unsignedBytes w32 result ++ (f .code ∷ []) ++ (f .small ∷ []) ++ (n ∷ []) ++ (0 ∷ []) ++ signedBytes w32 (f .offset) ++ unsignedBytes w32 (f .number) ++ operandsBytes os ≡ instructionBytes result f os
-unfolding instructionBytes
-instruction-pieces result f n os e = rw e (simp append-assoc)
 
 -- one byte of a part of s is written, the rest are left
 pub byte-step : (b s : List ℕ) (at start len k : ℕ) → k < len → start + len ≤ length s → at + len ≤ length b → store (set b (at + k) (getD s (start + k) 0)) (at + (k + 1)) (take (len - (k + 1)) (drop (start + (k + 1)) s)) ≡ store b (at + k) (take (len - k) (drop (start + k) s))

@@ -39,11 +39,13 @@ use Rattle.operand.specs.declared.ReadOperands.the-variants as L
 use Rattle.record.specs.declared.instruction.ReadInstruction.the-variants as I
 use Rattle.record.specs.declared.terminator.ReadTerminator.the-variants as T
 use Rattle.record.specs.declared.payload.Payload.the-variants as P
-use Rattle.recordwriter.specs.Bytes.{fieldsOf, instructionBytes, terminatorBytes, payloadBytes, recordBytes}
+use Rattle.payloadwriter.specs.Payloads.{instructionBytes, terminatorBytes}
+use Rattle.recordwriter.specs.Bytes.{fieldsOf, payloadBytes, recordBytes}
 use Rattle.recordwriter.specs.Written.{valid}
 use Rattle.opcode.specs.Opcode.{mapOk}
 use Rattle.recordwriter.specs.Typed.{TypedOperand, TypedOperands, TypedOpcode, TypedTerminator, Typed, dueOf, placed}
-use Rattle.recordwriter.proofs.Length.{instruction-length, return-length, jump-length, branch-length, head-length, part-length, record-length}
+use Rattle.payloadwriter.proofs.Lengths.{instruction-length, return-length, jump-length, branch-length}
+use Rattle.recordwriter.proofs.Length.{head-length, part-length, record-length}
 use Rattle.recordwriter.proofs.Valid.{name-told, payload-small}
 use Rattle.recordwriter.proofs.Holds.{Holds, stands, first, second, byte-there, unsigned-there, signed-there}
 use Rattle.recordwriter.proofs.OpcodeBack.{opcode-read}

@@ -23,7 +23,8 @@ use Rattle.opcode.specs.Opcode.{mapOk}
 use Rattle.recordwriter.specs.Size.{sizeOf}
 use Rattle.recordwriter.specs.declared.size.Size.{Size}
 use Rattle.recordwriter.specs.declared.size.Size.the-variants.{Bytes, Broken}
-use Rattle.recordwriter.proofs.Length.{instruction-length, return-length, jump-length, branch-length, head-length, part-length}
+use Rattle.payloadwriter.proofs.Lengths.{instruction-length, return-length, jump-length, branch-length}
+use Rattle.recordwriter.proofs.Length.{head-length, part-length}
 
 pub both-left : (x y : Bool) → both x y ≡ true → x ≡ true
 both-left true y e = refl

@@ -42,10 +42,11 @@ use Rattle.record.specs.declared.terminator.ReadTerminator.the-variants as T
 use Rattle.record.specs.declared.payload.Payload.{Payload}
 use Rattle.record.specs.declared.payload.Payload.the-variants as P
 use Rattle.record.proofs.RecordLaws.{record-taken}
-use Rattle.recordwriter.specs.Bytes.{fieldsOf, instructionBytes, terminatorBytes, payloadBytes, recordBytes}
+use Rattle.payloadwriter.specs.Payloads.{instructionBytes, terminatorBytes}
+use Rattle.recordwriter.specs.Bytes.{fieldsOf, payloadBytes, recordBytes}
 use Rattle.recordwriter.specs.Written.{valid}
 use Rattle.recordwriter.proofs.Length.{part-length}
-use Rattle.recordwriter.proofs.Pieces.{instruction-pieces}
+use Rattle.payloadwriter.proofs.Pieces.{instruction-pieces}
 use Rattle.recordwriter.proofs.Valid.{both-left, both-right}
 use Rattle.recordwriter.proofs.Holds.{Holds, turned, _▹_, byte-holds, unsigned-holds, signed-holds}
 use Rattle.recordwriter.proofs.OpcodeBack.{either, opcode-written}

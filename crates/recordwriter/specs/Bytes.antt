@@ -1,23 +1,20 @@
 -- A record's bytes from its value.
 use Prim.Native.Nat.{ℕ}
-use mathlib.Core.List.{List, [], _∷_, _++_}
+use mathlib.Core.List.{List, _++_}
 use lib.IntN.{pos}
 use lib.ListN.{length, take, drop}
 use mir.Syntax.{w16, w32}
-use Rattle.wire.specs.Le.{unsignedBytes, signedBytes}
+use Rattle.wire.specs.Le.{unsignedBytes}
 use Rattle.ir.specs.Operands.{listOf}
-use Rattle.ir.specs.declared.Operand.{Operand}
 use Rattle.ir.specs.declared.Opcode.{Opcode}
 use Rattle.ir.specs.declared.Opcode.the-variants as C
 use Rattle.ir.specs.declared.Instruction.{Instruction}
-use Rattle.ir.specs.declared.Terminator.{Terminator}
-use Rattle.ir.specs.declared.Terminator.the-variants.{Return, Jump, Branch}
 use Rattle.record.specs.Payload.{kindOf}
 use Rattle.record.specs.declared.Record.{Record}
 use Rattle.record.specs.declared.Record.the-variants as R
 use Rattle.opcode.specs.declared.Fields.{Fields}
 use Rattle.opcode.specs.Opcode.{smallOf}
-use Rattle.operand.specs.Operand.{operandBytes, operandsBytes}
+use Rattle.payloadwriter.specs.Payloads.{instructionBytes, terminatorBytes}
 
 -- an opcode's number, small, offset and number; what it does not use is zero
 unfoldable pub fieldsOf : Opcode → Fields
@@ -33,21 +30,6 @@ fieldsOf (C.CallMap m) = record { code = 9; small = 0; offset = pos 0; number = 
 fieldsOf (C.UpdateMap m) = record { code = 10; small = 0; offset = pos 0; number = m }
 fieldsOf (C.RingBufReserve m size) = record { code = 11; small = 0; offset = pos m; number = size }
 fieldsOf (C.RingBufSubmit m) = record { code = 12; small = 0; offset = pos 0; number = m }
-
--- u32 result, u8 opcode, u8 small, u8 operand count, u8 zero, i32 offset, u32 number, the operands
-unfoldable pub instructionBytes : ℕ → Fields → List Operand → List ℕ
-instructionBytes result f os =
-    unsignedBytes w32 result
-    ++ (f .code ∷ f .small ∷ length os ∷ 0 ∷ [])
-    ++ signedBytes w32 (f .offset)
-    ++ unsignedBytes w32 (f .number)
-    ++ operandsBytes os
-
--- u8 form, then 0 return, operand; 1 jump, u32 target; 2 branch, condition operand, u32 true, u32 false
-unfoldable pub terminatorBytes : Terminator → List ℕ
-terminatorBytes (Return o) = 0 ∷ operandBytes o
-terminatorBytes (Jump target) = 1 ∷ unsignedBytes w32 target
-terminatorBytes (Branch o to other) = 2 ∷ operandBytes o ++ unsignedBytes w32 to ++ unsignedBytes w32 other
 
 -- a map's name lies in the bytes `names`, where its record says
 unfoldable pub payloadBytes : List ℕ → Record → List ℕ

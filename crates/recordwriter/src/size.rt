@@ -1,5 +1,4 @@
 // Whether a record's value keeps the rules, and how many bytes its payload has.
-use ir::Terminator;
 use ir::operands;
 use opcode::map_ok;
 use record::Record;
@@ -7,9 +6,7 @@ use record::payload::head_ok;
 ghost use mathlib.Core.Path.{_≡_};
 ghost use Prim.Native.Nat.{_+_};
 ghost use lib.Dec.{leb};
-ghost use lib.ListN.{length};
 ghost use Rattle.wire.specs.Pick.{both};
-ghost use Rattle.recordwriter.specs.Bytes.{terminatorBytes};
 ghost use Rattle.recordwriter.specs.Size.{sizeOf};
 
 // The payload's bytes, or a value that breaks the rules.
@@ -28,20 +25,6 @@ fn name_ok(start: usize, len: usize, total: usize) -> bool
         }
     }
     false
-}
-
-fn terminator_size(t: Terminator) -> u16
-    ensures { λ r. ⌜ r ≡ length (terminatorBytes t) ⌝ }
-{
-    match t {
-        Terminator::Return(_) => 10,
-        Terminator::Jump(_) => 5,
-        Terminator::Branch {
-            condition: _,
-            true_block: _,
-            false_block: _,
-        } => 18,
-    }
 }
 
 pub(crate) fn size_of(value: Record, names: &[u8], maps: u16) -> Size
@@ -69,6 +52,6 @@ pub(crate) fn size_of(value: Record, names: &[u8], maps: u16) -> Size
             }
             Size::Broken
         }
-        Record::Terminator(t) => Size::Bytes(terminator_size(t)),
+        Record::Terminator(t) => Size::Bytes(payloadwriter::terminator_size(t)),
     }
 }

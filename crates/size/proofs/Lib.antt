@@ -1,4 +1,3 @@
-pub mod Counts
 pub mod Takes
 pub mod Opcodes
 pub mod Cells

@@ -31,9 +31,9 @@ use Rattle.lower.specs.declared.Outcome.{Outcome}
 use Rattle.lower.specs.declared.Outcome.the-variants.{Fine}
 use Rattle.lower.specs.declared.MapUse.{MapUse}
 use Rattle.lower.specs.declared.MapUse.the-variants as M
+use Rattle.lower.proofs.Counts.{first-is, no-first, two-are, not-two, three-are, not-three, none-are, some-are}
 use Rattle.size.specs.Size.{everyCell, sizeBy}
 use Rattle.size.specs.Part.{takes, ofConstant, ofOperand, addressSlots, operateSlots, ofFirst, ofNone, ofThree}
-use Rattle.size.proofs.Counts.{first-in, no-first, two-in, not-two, three-in, not-three, none-in, some-in}
 use Rattle.size.proofs.Takes.{Takes, _▹_, _▹fine_, one, constant-takes, zero-takes, load-takes, keep-takes, call-takes, move-takes, add-takes, map-takes, addr-takes, operate-takes, null-takes, ofSize, store-takes, ofOffset, context-takes}
 
 -- the slots of x, added up
@@ -46,21 +46,21 @@ module _ (p : List ℕ) where
   module _ (f : Operand → Lowered) (n : ℕ) (e : n ≡ byteAt p 6) where
     pub no-first-refused : n ≡ 0 → held (refused (Re.Count 0)) ≡ held (onFirst (operandsOf p) f)
     unfolding operandsOf
-    no-first-refused h = ap held (sym (no-first p 16 (byteAt p 6) f (sym e ∙ h)))
+    no-first-refused h = ap held (no-first p 16 (byteAt p 6) f (sym e ∙ h))
 
     pub first-held : (n ≡ 0 → ⊥) → held (onFirst (operandsOf p) f) ≡ held (f (operandIn p 16))
     unfolding operandsOf
-    first-held h = ap held (first-in p 16 (byteAt p 6) f (λ (z : byteAt p 6 ≡ 0). h (e ∙ z)))
+    first-held h = ap held (sym (first-is p 16 (byteAt p 6) f refl (λ (z : byteAt p 6 ≡ 0). h (e ∙ z))))
 
   module _ (f : Operand → Operand → Lowered) (n : ℕ) (e : n ≡ byteAt p 6) where
     pub not-two-refused : (n ≡ 2 → ⊥) → held (refused (Re.Count n)) ≡ held (onTwo (operandsOf p) f)
     unfolding operandsOf
     not-two-refused h =
-        ap (λ (k : ℕ). held (refused (Re.Count k))) e ∙ ap held (sym (not-two p 16 (byteAt p 6) f (λ (z : byteAt p 6 ≡ 2). h (e ∙ z))))
+        ap (λ (k : ℕ). held (refused (Re.Count k))) e ∙ ap held (not-two p 16 (byteAt p 6) f (λ (z : byteAt p 6 ≡ 2). h (e ∙ z)))
 
     pub two-held : n ≡ 2 → held (onTwo (operandsOf p) f) ≡ held (f (operandIn p 16) (operandIn p 25))
     unfolding operandsOf
-    two-held h = ap held (two-in p 16 (byteAt p 6) f (sym e ∙ h))
+    two-held h = ap held (sym (two-are p 16 (byteAt p 6) f refl refl (sym e ∙ h)))
 
   -- two operands judged, one after the other
   pub judged-two : {a b : Operand} {o q : Outcome} → a ≡ operandIn p 16 → b ≡ operandIn p 25 → o ≡ firstOf Fine (ofOperand a) → q ≡ firstOf o (ofOperand b)
@@ -81,8 +81,8 @@ module _ (p : List ℕ) where
   by-first f k h = go (eqb (byteAt p 6) 0) refl
     where
       go : (t : Bool) → eqb (byteAt p 6) 0 ≡ t → pick t (held (refused (Re.Count 0))) (takes (ofOperand (operandIn p 16)) M.Nothing k) ≡ held (onFirst (operandsIn p 16 (byteAt p 6)) f)
-      go true e = ap held (sym (no-first p 16 (byteAt p 6) f (eqb-true (byteAt p 6) 0 e)))
-      go false e = sym (ap held (first-in p 16 (byteAt p 6) f (eqb-false (byteAt p 6) 0 e)) ∙ h (operandIn p 16) .told)
+      go true e = ap held (no-first p 16 (byteAt p 6) f (eqb-true (byteAt p 6) 0 e))
+      go false e = sym (ap held (sym (first-is p 16 (byteAt p 6) f refl (eqb-false (byteAt p 6) 0 e))) ∙ h (operandIn p 16) .told)
 
   pub load-key : (t : Bool) → ofFirst p 3 ≡ sizeBy t C.LoadKey p
   unfolding sizeBy opcode
@@ -105,8 +105,8 @@ module _ (p : List ℕ) where
     where
       go : (t : Bool) → eqb (byteAt p 6) 0 ≡ t
           → pick t (takes Fine M.Nothing 2) (held (refused (Re.Count (byteAt p 6)))) ≡ held (onNone (operandsIn p 16 (byteAt p 6)) (call id ▸ keep everyCell result))
-      go true e = sym (ap held (none-in p 16 (byteAt p 6) _ (eqb-true (byteAt p 6) 0 e)) ∙ (call-takes id ▹fine keep-takes result) .told)
-      go false e = sym (ap held (some-in p 16 (byteAt p 6) _ (eqb-false (byteAt p 6) 0 e)))
+      go true e = sym (ap held (sym (none-are p 16 (byteAt p 6) _ (eqb-true (byteAt p 6) 0 e))) ∙ (call-takes id ▹fine keep-takes result) .told)
+      go false e = ap held (some-are p 16 (byteAt p 6) _ (eqb-false (byteAt p 6) 0 e))
 
   by-three : (id result : ℕ) → ofThree p ≡ held (onThree (operandsOf p) (λ a b c. load everyCell 1 a ▸ load everyCell 2 b ▸ load everyCell 3 c ▸ call id ▸ keep everyCell result))
   unfolding ofThree operandsOf
@@ -115,8 +115,8 @@ module _ (p : List ℕ) where
       go : (t : Bool) → eqb (byteAt p 6) 3 ≡ t
           → pick t (takes (firstOf (firstOf (ofOperand (operandIn p 16)) (ofOperand (operandIn p 25))) (ofOperand (operandIn p 34))) M.Nothing 5) (held (refused (Re.Count (byteAt p 6))))
           ≡ held (onThree (operandsIn p 16 (byteAt p 6)) (λ a b c. load everyCell 1 a ▸ load everyCell 2 b ▸ load everyCell 3 c ▸ call id ▸ keep everyCell result))
-      go true e = sym (ap held (three-in p 16 (byteAt p 6) _ (eqb-true (byteAt p 6) 3 e)) ∙ (load-takes 1 _ ▹ load-takes 2 _ ▹ load-takes 3 _ ▹fine call-takes id ▹fine keep-takes result) .told)
-      go false e = sym (ap held (not-three p 16 (byteAt p 6) _ (eqb-false (byteAt p 6) 3 e)))
+      go true e = sym (ap held (sym (three-are p 16 (byteAt p 6) _ refl refl refl (eqb-true (byteAt p 6) 3 e))) ∙ (load-takes 1 _ ▹ load-takes 2 _ ▹ load-takes 3 _ ▹fine call-takes id ▹fine keep-takes result) .told)
+      go false e = ap held (not-three p 16 (byteAt p 6) _ (eqb-false (byteAt p 6) 3 e))
 
   module _ (id : ℕ) where
     pub helper-none : either (either (eqb id 5) (eqb id 14)) (either (eqb id 15) (eqb id 35)) ≡ true → ofNone p ≡ sizeBy false (C.HelperCall id) p

@@ -17,7 +17,7 @@ use Rattle.frame.specs.Variables.{insert}
 use Rattle.frame.specs.declared.Cell.{Cell}
 use Rattle.frame.specs.declared.Cell.the-variants.{At, Missing}
 use Rattle.unitfile.specs.Unit.{PlacedInstruction, BasicBlock}
-use Rattle.unitfile.proofs.Choice.{pick-ind}
+use Rattle.opening.proofs.Choice.{pick-ind}
 use Rattle.survey.specs.Occurrences.{Occurrence, ofOperand, ofOperands, ofInstruction, ofInstructions, ofTerminator, occurrences}
 use Rattle.survey.specs.Collected.{Collected, all, tooMany, collect, collected}
 

@@ -9,7 +9,6 @@ use Rattle.unitfile.specs.Unit.{parse}
 use Rattle.unitfile.specs.declared.Found.{Found}
 use Rattle.survey.specs.Surveyed.{ids, endings, blocksOf, variablesOf, surveyedVariables, surveyedIds, surveyedEndings}
 use Rattle.survey.proofs.Answers.{IsUnit}
-use Rattle.survey.proofs.Bounds.{few-blocks}
 use Rattle.survey.proofs.Flat.{ids-count, endings-count}
 use Rattle.survey.proofs.Sorted.{all-fits}
 
@@ -21,10 +20,10 @@ module _ (b l : List ℕ) where
   unfolding surveyedVariables variablesOf
   front-variables {found} {n} u size = rw (u .collects) (front l (u .variables) n (u .count) (omega (arith, u .count, size, all-fits _ _ (u .collects) .few)))
 
-  pub front-ids : length l ≡ 1024 → take (length (blocksOf (parse b))) (surveyedIds b l) ≡ ids (blocksOf (parse b))
+  pub front-ids : length (blocksOf (parse b)) ≤ length l → take (length (blocksOf (parse b))) (surveyedIds b l) ≡ ids (blocksOf (parse b))
   unfolding surveyedIds
-  front-ids size = front l (ids (blocksOf (parse b))) _ (ids-count (blocksOf (parse b))) (omega (arith, few-blocks b))
+  front-ids = front l (ids (blocksOf (parse b))) _ (ids-count (blocksOf (parse b)))
 
-  pub front-endings : length l ≡ 1024 → take (length (blocksOf (parse b))) (surveyedEndings b l) ≡ endings (blocksOf (parse b))
+  pub front-endings : length (blocksOf (parse b)) ≤ length l → take (length (blocksOf (parse b))) (surveyedEndings b l) ≡ endings (blocksOf (parse b))
   unfolding surveyedEndings
-  front-endings size = front l (endings (blocksOf (parse b))) _ (endings-count (blocksOf (parse b))) (omega (arith, few-blocks b))
+  front-endings = front l (endings (blocksOf (parse b))) _ (endings-count (blocksOf (parse b)))

@@ -5,7 +5,7 @@ use Prim.Native.Nat.{ℕ, suc, _+_, _≤_}
 use native.Mathlib.Nat.{add-zero}
 use native.Mathlib.Omega.{arith}
 use lib.ListN.{length, set, length-append}
-use lib.Seq.{sets}
+use lib.Seq.{sets, length-sets}
 use Rattle.record.specs.Payload.{kindOf}
 use Rattle.record.specs.declared.Record.{Record}
 use Rattle.record.specs.declared.Record.the-variants as R
@@ -193,3 +193,12 @@ module _ {b : List ℕ} {maps : ℕ} {vs₀ is₀ es₀ vs is es : List ℕ} {c 
     pub end-endings : es ≡ surveyedEndings b es₀
     unfolding surveyedEndings flatEndings
     end-endings = ap (λ (l : List Placed). sets es (g .block) (flatEndings l)) (sym ended) ∙ k .endings
+
+    -- a list that is lent stays as long as it was
+    pub ids-length : length is ≡ length is₀
+    unfolding surveyedIds
+    ids-length = ap length end-ids ∙ length-sets is₀ 0 (ids (blocks b))
+
+    pub endings-length : length es ≡ length es₀
+    unfolding surveyedEndings
+    endings-length = ap length end-endings ∙ length-sets es₀ 0 (endings (blocks b))

@@ -18,7 +18,7 @@ use Rattle.frame.proofs.Sorted.{Sorted, insert-there}
 use Rattle.frame.proofs.Hints.{index-stands}
 use Rattle.operand.specs.Operand.{operandIn, operandsIn}
 use Rattle.unitfile.specs.declared.Found.{Found}
-use Rattle.unitfile.proofs.Choice.{pick-ind}
+use Rattle.opening.proofs.Choice.{pick-ind}
 use Rattle.survey.specs.Occurrences.{Occurrence, ofOperand, ofOperands}
 use Rattle.survey.specs.Collected.{Collected, all, tooMany, collect}
 use Rattle.survey.specs.Surveyed.{variablesOf, counted}

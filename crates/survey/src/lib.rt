@@ -24,8 +24,8 @@ fn fixed(variables: [u32; 56])
 pub fn survey_unit(
     unit: &[u8],
     variables: &mut [u32; 56],
-    ids: &mut [u32; 1024],
-    endings: &mut [u32; 1024],
+    ids: &mut [u32],
+    endings: &mut [u32],
 ) -> Survey
     ensures { λ r. ⌜ r ≡ surveyed (now (unit .entry)) ⌝ }
     ensures { λ _. ⌜ now (variables .exit) ≡ surveyedVariables (now (unit .entry)) (now (variables .entry)) ⌝ }

@@ -8,7 +8,7 @@ use unitfile::Found;
 use unitfile::ReadUnit;
 ghost use mathlib.Core.Path.{_≡_};
 ghost use Prim.Native.Nat.{_+_, _≤_, _<_};
-ghost use lib.ListN.{length};
+ghost use lib.ListN.{length, set};
 ghost use Rattle.unitfile.specs.Unit.{readUnit, parse};
 ghost use Rattle.survey.specs.Collected.{collected};
 ghost use Rattle.survey.specs.Surveyed.{blocksOf, counted, surveyedVariables, surveyedIds, surveyedEndings};
@@ -21,13 +21,22 @@ pub struct Going {
     pub id: u32,
 }
 
+// What does not fit into a lent list is not written.
+fn keep(list: &mut [u32], i: usize, x: u32)
+    ensures { λ _. ⌜ now (list .exit) ≡ set (now (list .entry)) i x ⌝ }
+{
+    if i < list.len() {
+        list[i] = x;
+    }
+}
+
 // A block record, kind 3, begins a block; an instruction, kind 4, names variables; a terminator ends the block.
 fn on_record(
     s: &[u8],
     variables: &mut [u32; 56],
     hints: &mut [u8; 256],
-    ids: &mut [u32; 1024],
-    endings: &mut [u32; 1024],
+    ids: &mut [u32],
+    endings: &mut [u32],
     g: Going,
     place: usize,
     kind: u16,
@@ -53,8 +62,8 @@ fn on_record(
         };
     }
     let counted = occurrences::with_terminator(s, variables, hints, tally, place);
-    ids[block] = g.id;
-    endings[block] = place as u32;
+    keep(ids, block, g.id);
+    keep(endings, block, place as u32);
     Going {
         tally: counted,
         block: block + 1,
@@ -76,8 +85,8 @@ pub(crate) fn survey_blocks(
     unit: &[u8],
     found: Found,
     variables: &mut [u32; 56],
-    ids: &mut [u32; 1024],
-    endings: &mut [u32; 1024],
+    ids: &mut [u32],
+    endings: &mut [u32],
 ) -> Survey
     requires { ⌜ readUnit (now unit) ≡ ReadUnit.Unit found ⌝ }
     requires { ⌜ length (now variables) ≡ 56 ⌝ }

@@ -7,7 +7,7 @@ use native.Mathlib.Nat.{zero-add}
 use native.Mathlib.Omega.{arith}
 use borrow.Author.Tests.{le-leb, lt-leb}
 use lib.ListN.{length, getD, replicate}
-use lib.Seq.{sets, length-sets}
+use lib.Seq.{sets}
 use Rattle.record.specs.declared.Fault as record-fault
 use Rattle.unitfile.specs.Unit.{BasicBlock, parse, readUnit}
 use Rattle.unitfile.specs.declared.Found.{Found}
@@ -164,19 +164,15 @@ module _ (c : Context) (bs : List BasicBlock) (em ls ls′ : List ℕ) {r : Size
   unfolding onLaid
   when-faulty place reason q code relocs = at-fault code relocs (ap (onLaid c (keepBy e 0 bs)) (refused-size _ place reason (sym q ∙ m .size)))
 
-  module _ {numbers es counts named : List ℕ} (l : Linked bs em numbers es counts named) (n k : ℕ) (q : r ≡ S.Slots n k) (room : length ls ≡ 1025) where
+  module _ {numbers es counts named : List ℕ} (l : Linked bs em numbers es counts named) (n k : ℕ) (q : r ≡ S.Slots n k) (room : length bs < length ls) where
     sized : Sized (unitOps c (keepBy e 0 bs)) n k
     sized = slots-size _ n k (sym q ∙ m .size)
 
     put : ls′ ≡ sets ls 0 (layout.edges c e 0 0 1 bs)
     put = m .edges (ops (unitOps c (keepBy e 0 bs))) (sized .fine)
 
-    pub edges-size : length ls′ ≡ 1025
-    edges-size = ap length put ∙ length-sets ls 0 (layout.edges c e 0 0 1 bs) ∙ room
-
     tables : Tables c e bs ls′ numbers
     tables =
-        let f = l .few in
         record {
           few = l .few;
           fine = sized .fine;
@@ -218,7 +214,6 @@ module _ (c : Context) (bs : List BasicBlock) (em ls ls′ : List ℕ) {r : Size
               maps = sized .maps;
               few-slots = m .few n k q .0;
               few-maps = m .few n k q .1;
-              edges-size = edges-size;
               numbers-size = l .numbers-size;
             }
 

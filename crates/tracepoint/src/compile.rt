@@ -10,14 +10,16 @@ use passes::Size;
 use unitfile::Found;
 use unitfile::ReadUnit;
 ghost use mathlib.Core.Path.{_≡_};
-ghost use Prim.Native.Nat.{_≤_};
+ghost use Prim.Native.Nat.{_+_, _≤_};
 ghost use lib.ListN.{length};
 ghost use Rattle.unitfile.specs.Unit.{parse, readUnit};
+ghost use Rattle.survey.specs.Collected.{all, collected};
 ghost use Rattle.survey.specs.Surveyed.{blocksOf};
 ghost use Rattle.jumps.specs.Landed.{marked};
 ghost use Rattle.tracepoint.specs.Compile.{loweringOf};
 ghost use Rattle.passes.specs.Inner.{contextOf};
-ghost use Rattle.passes.specs.Stages.{Surveyed, Linked, Ready};
+ghost use Rattle.passes.specs.Notes.{EndsAt};
+ghost use Rattle.passes.specs.Stages.{Spacious, Surveyed, Linked, Ready};
 ghost use Rattle.tracepoint.specs.Answers.{loweringBy, loweredBy, Answers};
 
 // The refusals 21 and 22; or the code and the relocations, written.
@@ -27,16 +29,17 @@ fn write_roomed(
     variables: &[u32],
     hints: &[u8; 256],
     marks: &[u8; 56],
-    emitted: &[u8; 1024],
-    edges: &[u32; 1025],
-    numbers: &[u32; 2048],
+    emitted: &[u8],
+    endings: &[u32],
+    edges: &[u32],
+    numbers: &[u32],
     slots: u32,
     maps: u32,
     code: &mut [u8],
     relocs: &mut [u32],
 ) -> Compiled
     requires { ⌜ readUnit (now unit) ≡ ReadUnit.Unit found ⌝ }
-    requires { ⌜ (length (now variables) ≤ 56) × (length (now emitted) ≡ 1024) ⌝ }
+    requires { ⌜ (length (now variables) ≤ 56) × EndsAt (now unit) (now endings) × (found .head .blocks ≤ length (now emitted)) ⌝ }
     requires { ⌜ Ready (contextOf (now variables) (now hints) (now marks)) (marked (now emitted)) (blocksOf (parse (now unit))) (now edges) (now numbers) slots maps ⌝ }
     ensures { λ r. ⌜ Answers (loweredBy (contextOf (now (variables .entry)) (now (hints .entry)) (now (marks .entry))) (marked (now (emitted .entry))) (blocksOf (parse (now (unit .entry))))) (now (code .entry)) (now (relocs .entry)) r (now (code .exit)) (now (relocs .exit)) ⌝ }
 {
@@ -55,6 +58,7 @@ fn write_roomed(
         hints,
         marks,
         emitted,
+        endings,
         edges,
         numbers,
         code,
@@ -70,33 +74,34 @@ fn compile_linked(
     variables: &[u32],
     hints: &[u8; 256],
     marks: &[u8; 56],
-    emitted: &[u8; 1024],
-    numbers: &[u32; 2048],
-    endings: &[u32; 1024],
-    counts: &[u8; 1024],
-    named: &[u32; 2048],
+    emitted: &[u8],
+    numbers: &[u32],
+    endings: &[u32],
+    counts: &[u8],
+    named: &[u32],
+    edges: &mut [u32],
     code: &mut [u8],
     relocs: &mut [u32],
 ) -> Compiled
     requires { ⌜ readUnit (now unit) ≡ ReadUnit.Unit found ⌝ }
-    requires { ⌜ length (now variables) ≤ 56 ⌝ }
+    requires { ⌜ (collected (blocksOf (parse (now unit))) ≡ all (now variables)) × EndsAt (now unit) (now endings) × (found .head .blocks + 1 ≤ length (now edges)) ⌝ }
     requires { ⌜ Linked (blocksOf (parse (now unit))) (now emitted) (now numbers) (now endings) (now counts) (now named) ⌝ }
     ensures { λ r. ⌜ Answers (loweringBy (contextOf (now (variables .entry)) (now (hints .entry)) (now (marks .entry))) (marked (now (emitted .entry))) (blocksOf (parse (now (unit .entry))))) (now (code .entry)) (now (relocs .entry)) r (now (code .exit)) (now (relocs .exit)) ⌝ }
 {
-    let mut edges = [0u32; 1025];
-    match measure::measure(unit, found, variables, hints, marks, emitted, &mut edges) {
+    match measure::measure(
+        unit,
+        found,
+        variables,
+        hints,
+        marks,
+        emitted,
+        endings,
+        edges,
+    ) {
         Size::Refused(place, reason) => Compiled::Refused(Fault::Instruction(place, reason)),
         Size::Slots(slots, maps) => {
             let head = found.head;
-            match jumps::check_jumps(
-                head.blocks,
-                emitted,
-                &edges,
-                endings,
-                counts,
-                named,
-                numbers,
-            ) {
+            match jumps::check_jumps(head.blocks, emitted, edges, endings, counts, named, numbers) {
                 Landed::NoTarget(place, id) => Compiled::Refused(Fault::NoTarget(place, id)),
                 Landed::TooFar(place, id) => Compiled::Refused(Fault::TooFar(place, id)),
                 Landed::Lands => write_roomed(
@@ -106,7 +111,8 @@ fn compile_linked(
                     hints,
                     marks,
                     emitted,
-                    &edges,
+                    endings,
+                    edges,
                     numbers,
                     slots,
                     maps,
@@ -123,19 +129,23 @@ pub(crate) fn compile_surveyed(
     unit: &[u8],
     found: Found,
     variables: &[u32],
-    ids: &[u32; 1024],
-    endings: &[u32; 1024],
+    ids: &[u32],
+    endings: &[u32],
+    counts: &mut [u8],
+    named: &mut [u32],
+    numbers: &mut [u32],
+    emitted: &mut [u8],
+    edges: &mut [u32],
     code: &mut [u8],
     relocs: &mut [u32],
 ) -> Compiled
     requires { ⌜ Surveyed (now unit) found (now variables) (now ids) (now endings) ⌝ }
+    requires { ⌜ Spacious (length (blocksOf (parse (now unit)))) (length (now ids)) (length (now endings)) (length (now counts)) (length (now named)) (length (now numbers)) (length (now emitted)) (length (now edges)) ⌝ }
     ensures { λ r. ⌜ Answers (loweringOf (parse (now (unit .entry)))) (now (code .entry)) (now (relocs .entry)) r (now (code .exit)) (now (relocs .exit)) ⌝ }
 {
     let mut hints = [0u8; 256];
     hint::put_hints(variables, &mut hints);
     let mut marks = [0u8; 56];
-    let mut counts = [0u8; 1024];
-    let mut named = [0u32; 2048];
     context::note_blocks(
         unit,
         found,
@@ -143,25 +153,25 @@ pub(crate) fn compile_surveyed(
         &hints,
         endings,
         &mut marks,
-        &mut counts,
-        &mut named,
+        counts,
+        named,
+        numbers,
     );
     let head = found.head;
     let n = head.blocks as usize;
-    let mut numbers = named;
-    let mut emitted = [0u8; 1024];
-    flow::link(n, ids, &counts, &mut numbers, &mut emitted);
+    flow::link(n, ids, counts, numbers, emitted);
     compile_linked(
         unit,
         found,
         variables,
         &hints,
         &marks,
-        &emitted,
-        &numbers,
+        emitted,
+        numbers,
         endings,
-        &counts,
-        &named,
+        counts,
+        named,
+        edges,
         code,
         relocs,
     )

@@ -5,17 +5,14 @@ use ir::Terminator;
 use unitfile::Found;
 use unitfile::ReadUnit;
 ghost use mathlib.Core.Path.{_≡_};
-ghost use Prim.Native.Nat.{_+_, _≤_, _<_};
+ghost use Prim.Native.Nat.{_+_, _*_, _≤_, _<_};
 ghost use lib.ListN.{length};
-ghost use mir.Syntax.{w32};
-ghost use Rattle.wire.specs.Le.{unsignedAt};
 ghost use Rattle.peek.specs.Terminator.{terminatorIn};
 ghost use Rattle.unitfile.specs.Unit.{parse, readUnit};
 ghost use Rattle.frame.specs.Hint.{indexBy};
 ghost use Rattle.survey.specs.Surveyed.{blocksOf};
 ghost use Rattle.survey.proofs.Sorted.{Fits};
-ghost use Rattle.passes.specs.Inner.{conditionAt, markAt};
-ghost use Rattle.passes.specs.Seen.{asked};
+ghost use Rattle.passes.specs.Inner.{conditionAt, markAt, contextOf, conditionIn};
 ghost use Rattle.passes.specs.Notes.{marksAfter, countOf, firstTarget, secondTarget, Notes, EndsAt, Noted};
 
 // A variable's mark.
@@ -38,7 +35,7 @@ pub(crate) fn condition_of(
     payload: &[u8],
 ) -> bool
     requires { ⌜ length (now variables) ≤ 56 ⌝ }
-    ensures { λ r. ⌜ r ≡ asked (now (payload .entry)) (conditionAt (now (variables .entry)) (now (marks .entry)) (indexBy (now (variables .entry)) (now (hints .entry)) (unsignedAt w32 (now (payload .entry)) 0))) ⌝ }
+    ensures { λ r. ⌜ r ≡ conditionIn (contextOf (now (variables .entry)) (now (hints .entry)) (now (marks .entry))) (now (payload .entry)) ⌝ }
 {
     if wire::get_u8(payload, 4) == 7 {
         return is_condition(variables, hints, marks, wire::get_u32(payload, 0));
@@ -119,25 +116,31 @@ fn second_target(t: Terminator) -> u32
     }
 }
 
-// What the terminator of block k tells, whose record begins at a place.
+// What the terminator of block k tells, whose record begins at a place. The ids stand twice, since one list of them becomes numbers.
 fn note(
     unit: &[u8],
     variables: &[u32],
     hints: &[u8; 256],
     marks: &mut [u8; 56],
-    counts: &mut [u8; 1024],
-    targets: &mut [u32; 2048],
+    counts: &mut [u8],
+    targets: &mut [u32],
+    numbers: &mut [u32],
     k: usize,
     place: u32,
 )
-    requires { ⌜ (length (now variables) ≤ 56) × (k < 1024) ⌝ }
+    requires { ⌜ (length (now variables) ≤ 56) × (k < 1024) × (k < length (now counts)) × (2 * k + 1 < length (now targets)) × (2 * k + 1 < length (now numbers)) ⌝ }
     ensures { λ _. ⌜ Notes (now (variables .entry)) (now (hints .entry)) k (terminatorIn (now (unit .entry)) (place + 4)) (now (marks .entry)) (now (counts .entry)) (now (targets .entry)) (now (marks .exit)) (now (counts .exit)) (now (targets .exit)) ⌝ }
+    ensures { λ _. ⌜ Notes (now (variables .entry)) (now (hints .entry)) k (terminatorIn (now (unit .entry)) (place + 4)) (now (marks .entry)) (now (counts .entry)) (now (numbers .entry)) (now (marks .exit)) (now (counts .exit)) (now (numbers .exit)) ⌝ }
 {
     let t = peek::terminator::terminator_in(unit, place as usize + 4);
     mark_condition(variables, hints, marks, t);
     counts[k] = count_of(t);
-    targets[2 * k] = first_target(t);
-    targets[2 * k + 1] = second_target(t);
+    let a = first_target(t);
+    let b = second_target(t);
+    targets[2 * k] = a;
+    targets[2 * k + 1] = b;
+    numbers[2 * k] = a;
+    numbers[2 * k + 1] = b;
 }
 
 // The blocks of a unit that was read whole, by the places of their terminators.
@@ -146,14 +149,17 @@ pub(crate) fn note_blocks(
     found: Found,
     variables: &[u32],
     hints: &[u8; 256],
-    endings: &[u32; 1024],
+    endings: &[u32],
     marks: &mut [u8; 56],
-    counts: &mut [u8; 1024],
-    targets: &mut [u32; 2048],
+    counts: &mut [u8],
+    targets: &mut [u32],
+    numbers: &mut [u32],
 )
     requires { ⌜ readUnit (now unit) ≡ ReadUnit.Unit found ⌝ }
     requires { ⌜ Fits (now variables) × EndsAt (now unit) (now endings) × (length (now marks) ≡ 56) ⌝ }
+    requires { ⌜ (found .head .blocks ≤ length (now endings)) × (found .head .blocks ≤ length (now counts)) × (2 * found .head .blocks ≤ length (now targets)) × (2 * found .head .blocks ≤ length (now numbers)) ⌝ }
     ensures { λ _. ⌜ Noted (blocksOf (parse (now (unit .entry)))) (now (variables .entry)) (now (marks .entry)) (now (counts .entry)) (now (targets .entry)) (now (marks .exit)) (now (counts .exit)) (now (targets .exit)) ⌝ }
+    ensures { λ _. ⌜ Noted (blocksOf (parse (now (unit .entry)))) (now (variables .entry)) (now (marks .entry)) (now (counts .entry)) (now (numbers .entry)) (now (marks .exit)) (now (counts .exit)) (now (numbers .exit)) ⌝ }
 {
     let head = found.head;
     let n = head.blocks as usize;
@@ -166,6 +172,7 @@ pub(crate) fn note_blocks(
             marks,
             counts,
             targets,
+            numbers,
             k,
             endings[k],
         );

@@ -2,7 +2,6 @@
 mod compile;
 mod context;
 mod measure;
-mod walk;
 mod write;
 
 use lower::Reason;
@@ -10,8 +9,13 @@ use survey::Survey;
 use wire::refusal::Refusal;
 ghost use mathlib.Core.Path.{_≡_};
 ghost use lib.IntN.{pos};
+ghost use Prim.Native.Nat.{_≤_};
 ghost use lib.ListN.{length};
-ghost use Rattle.tracepoint.specs.Compile.{told, refusalOf, reasonRefusal, compileAnswer, compileCode, compileRelocs};
+ghost use Rattle.unitfile.specs.Unit.{parse};
+ghost use Rattle.survey.specs.Surveyed.{blocksOf};
+ghost use Rattle.passes.specs.Stages.{Spacious};
+ghost use Rattle.tracepoint.specs.Compile.{told, refusalOf, reasonRefusal, loweringOf, compileAnswer, compileCode, compileRelocs};
+ghost use Rattle.tracepoint.specs.Answers.{Answers};
 
 // Why a unit is not compiled.
 pub enum Fault {
@@ -80,20 +84,102 @@ pub fn refusal(f: Fault) -> Refusal
 
 // ---- a unit's bytes to code and relocations
 
+// Over lent tables that hold the unit's blocks.
+fn compile_in(
+    unit: &[u8],
+    ids: &mut [u32],
+    endings: &mut [u32],
+    counts: &mut [u8],
+    named: &mut [u32],
+    numbers: &mut [u32],
+    emitted: &mut [u8],
+    edges: &mut [u32],
+    code: &mut [u8],
+    relocs: &mut [u32],
+) -> Compiled
+    requires { ⌜ Spacious (length (blocksOf (parse (now unit)))) (length (now ids)) (length (now endings)) (length (now counts)) (length (now named)) (length (now numbers)) (length (now emitted)) (length (now edges)) ⌝ }
+    ensures { λ r. ⌜ Answers (loweringOf (parse (now (unit .entry)))) (now (code .entry)) (now (relocs .entry)) r (now (code .exit)) (now (relocs .exit)) ⌝ }
+{
+    let mut variables = [0u32; 56];
+    match survey::survey_unit(unit, &mut variables, ids, endings) {
+        Survey::Refused(f) => Compiled::Refused(Fault::Reading(f)),
+        Survey::TooMany(place) => Compiled::Refused(Fault::Variables(place)),
+        Survey::Unit(found, n) => compile::compile_surveyed(
+            unit,
+            found,
+            &variables[0..n],
+            ids,
+            endings,
+            counts,
+            named,
+            numbers,
+            emitted,
+            edges,
+            code,
+            relocs,
+        ),
+    }
+}
+
+// Few blocks have small tables, since a table costs its filling.
+fn compile_few(unit: &[u8], code: &mut [u8], relocs: &mut [u32]) -> Compiled
+    requires { ⌜ length (blocksOf (parse (now unit))) ≤ 16 ⌝ }
+    ensures { λ r. ⌜ Answers (loweringOf (parse (now (unit .entry)))) (now (code .entry)) (now (relocs .entry)) r (now (code .exit)) (now (relocs .exit)) ⌝ }
+{
+    let mut ids = [0u32; 16];
+    let mut endings = [0u32; 16];
+    let mut counts = [0u8; 16];
+    let mut named = [0u32; 32];
+    let mut numbers = [0u32; 32];
+    let mut emitted = [0u8; 16];
+    let mut edges = [0u32; 17];
+    compile_in(
+        unit,
+        &mut ids,
+        &mut endings,
+        &mut counts,
+        &mut named,
+        &mut numbers,
+        &mut emitted,
+        &mut edges,
+        code,
+        relocs,
+    )
+}
+
+fn compile_many(unit: &[u8], code: &mut [u8], relocs: &mut [u32]) -> Compiled
+    ensures { λ r. ⌜ Answers (loweringOf (parse (now (unit .entry)))) (now (code .entry)) (now (relocs .entry)) r (now (code .exit)) (now (relocs .exit)) ⌝ }
+{
+    let mut ids = [0u32; 1024];
+    let mut endings = [0u32; 1024];
+    let mut counts = [0u8; 1024];
+    let mut named = [0u32; 2048];
+    let mut numbers = [0u32; 2048];
+    let mut emitted = [0u8; 1024];
+    let mut edges = [0u32; 1025];
+    compile_in(
+        unit,
+        &mut ids,
+        &mut endings,
+        &mut counts,
+        &mut named,
+        &mut numbers,
+        &mut emitted,
+        &mut edges,
+        code,
+        relocs,
+    )
+}
+
 // The code fills the front of its buffer, the relocations' pairs of byte offset and map number that of theirs; a refused call changes neither.
 pub fn compile_tracepoint(unit: &[u8], code: &mut [u8], relocs: &mut [u32]) -> Compiled
     ensures { λ r. ⌜ r ≡ compileAnswer (now (unit .entry)) (length (now (code .entry))) (length (now (relocs .entry))) ⌝ }
     ensures { λ _. ⌜ now (code .exit) ≡ compileCode (now (unit .entry)) (now (code .entry)) (length (now (relocs .entry))) ⌝ }
     ensures { λ _. ⌜ now (relocs .exit) ≡ compileRelocs (now (unit .entry)) (length (now (code .entry))) (now (relocs .entry)) ⌝ }
 {
-    let mut variables = [0u32; 56];
-    let mut ids = [0u32; 1024];
-    let mut endings = [0u32; 1024];
-    match survey::survey_unit(unit, &mut variables, &mut ids, &mut endings) {
-        Survey::Refused(f) => Compiled::Refused(Fault::Reading(f)),
-        Survey::TooMany(place) => Compiled::Refused(Fault::Variables(place)),
-        Survey::Unit(found, n) => {
-            compile::compile_surveyed(unit, found, &variables[0..n], &ids, &endings, code, relocs)
-        }
+    // where a unit's head counts its blocks
+    if wire::get_u32(unit, 8) <= 16 {
+        return compile_few(unit, code, relocs);
     }
+    compile_many(unit, code, relocs)
 }

@@ -1,29 +1,31 @@
 // How many slots and relocations a unit's blocks take and where each block begins; or the first refusal.
 use crate::context;
-use crate::walk;
+use ir::Operand;
 use lower::Emitted;
-use lower::Ending;
 use lower::MapUse;
 use lower::Outcome;
+use lower::Reason;
 use passes::Size;
-use passes::State;
-use passes::Taken;
-use unitfile::Cursor;
 use unitfile::Found;
 use unitfile::ReadUnit;
 ghost use mathlib.Core.Path.{_≡_};
-ghost use Prim.Native.Nat.{suc, _+_, _≤_};
+ghost use Prim.Native.Nat.{_+_, _≤_};
 ghost use lib.ListN.{length};
-ghost use lib.Seq.{sets};
+ghost use Rattle.peek.specs.Terminator.{terminatorIn};
 ghost use Rattle.unitfile.specs.Unit.{parse, readUnit};
+ghost use Rattle.frame.specs.Hint.{frameBy};
+ghost use Rattle.survey.specs.Collected.{all, collected};
 ghost use Rattle.survey.specs.Surveyed.{blocksOf};
-ghost use Rattle.lower.specs.Held.{endingOps};
-ghost use Rattle.lower.specs.Payload.{scratchIn};
+ghost use Rattle.lower.specs.Terminator.{terminator};
+ghost use Rattle.size.specs.Size.{everyCell};
 ghost use Rattle.layout.specs.Layout.{at};
 ghost use Rattle.jumps.specs.Landed.{marked};
 ghost use Rattle.passes.specs.Inner.{contextOf};
-ghost use Rattle.passes.specs.Seen.{instructionBy, opsIn, ringAfter, endIn};
-ghost use Rattle.passes.specs.Tables.{sizeBy, Sized, Takes, Measured};
+ghost use Rattle.passes.specs.Notes.{EndsAt};
+ghost use Rattle.passes.specs.Tables.{sizeBy, loadSize, Sized, Measured};
+ghost use Rattle.passes.proofs.Sizing.{Row, RowSized, SomeBlock, BlockTakes};
+
+// ---- instructions
 
 fn size_of(place: usize, e: Emitted) -> Size
     ensures { λ r. ⌜ r ≡ sizeBy place e ⌝ }
@@ -39,120 +41,26 @@ fn size_of(place: usize, e: Emitted) -> Size
     }
 }
 
-// The instruction at a place, by its payload: lowered with no room for its code.
-fn size_of_instruction(
-    variables: &[u32],
-    hints: &[u8; 256],
-    marks: &[u8; 56],
-    j: u8,
-    place: usize,
-    payload: &[u8],
-) -> Taken
-    requires { ⌜ length (now variables) ≤ 56 ⌝ }
-    ensures { λ r. ⌜ Takes (at place (instructionBy (contextOf (now (variables .entry)) (now (hints .entry)) (now (marks .entry))) j (now (payload .entry)))) (scratchIn j (now (payload .entry))) r ⌝ }
-{
-    let condition = context::condition_of(variables, hints, marks, payload);
-    let mut none = [0u8; 0];
-    let e = lower::lower_instruction(&mut none, 0, variables, hints, j, condition, payload);
-    Taken {
-        size: size_of(place, e),
-        scratch: lower::scratch_after(j, payload),
-    }
-}
-
-fn size_of_ending(place: usize, t: Ending) -> Size
-    ensures { λ r. ⌜ Sized (at place (endingOps t)) r ⌝ }
-{
-    match t {
-        Ending::Return(_) => Size::Slots(2, 0),
-        Ending::Jump(_) => Size::Slots(1, 0),
-        Ending::Branch(_, _, _) => Size::Slots(3, 0),
-        Ending::Refused(reason) => Size::Refused(place, reason),
-    }
-}
-
-// What the record at a place takes, by its kind and its payload.
-fn size_of_record(
-    payload: &[u8],
-    variables: &[u32],
-    hints: &[u8; 256],
-    marks: &[u8; 56],
-    st: State,
-    kind: u16,
-    place: usize,
-) -> Taken
-    requires { ⌜ length (now variables) ≤ 56 ⌝ }
-    ensures { λ r. ⌜ Takes (opsIn (contextOf (now (variables .entry)) (now (hints .entry)) (now (marks .entry))) st place kind (now (payload .entry))) (ringAfter st kind (now (payload .entry))) r ⌝ }
-{
-    if st.emits {
-        if kind == 4 {
-            return size_of_instruction(variables, hints, marks, st.scratch, place, payload);
-        }
-        if kind == 5 {
-            let t = peek::terminator::terminator_in(payload, 0);
-            return Taken {
-                size: size_of_ending(place, lower::lower_terminator(variables, hints, t)),
-                scratch: st.scratch,
-            };
-        }
-        return Taken {
-            size: Size::Slots(0, 0),
-            scratch: st.scratch,
-        };
-    }
-    Taken {
-        size: Size::Slots(0, 0),
-        scratch: st.scratch,
-    }
-}
-
-// The slot after block k, where a record of the kind ends it.
-fn put_edge(edges: &mut [u32; 1025], k: usize, slots: u32, kind: u16)
-    requires { ⌜ (k + length (endIn 0 kind) ≤ 1024) × (length (now edges) ≡ 1025) ⌝ }
-    ensures { λ _. ⌜ now (edges .exit) ≡ sets (now (edges .entry)) (suc k) (endIn slots kind) ⌝ }
-{
-    if kind == 5 {
-        edges[k + 1] = slots;
-        return;
-    }
-}
-
-// A unit that was read whole: slot 0, then the emitted blocks. Block k begins at edges[k] and ends before edges[k + 1].
-pub(crate) fn measure(
+// The instructions that stand from a byte to another.
+fn size_of_instructions(
     unit: &[u8],
-    found: Found,
     variables: &[u32],
     hints: &[u8; 256],
     marks: &[u8; 56],
-    emitted: &[u8; 1024],
-    edges: &mut [u32; 1025],
+    first: usize,
+    end: usize,
 ) -> Size
-    requires { ⌜ readUnit (now unit) ≡ ReadUnit.Unit found ⌝ }
-    requires { ⌜ (length (now variables) ≤ 56) × (length (now emitted) ≡ 1024) × (length (now edges) ≡ 1025) ⌝ }
-    ensures { λ r. ⌜ Measured (contextOf (now (variables .entry)) (now (hints .entry)) (now (marks .entry))) (marked (now (emitted .entry))) (blocksOf (parse (now (unit .entry)))) (now (edges .entry)) r (now (edges .exit)) ⌝ }
+    requires { ⌜ Row (frameBy (now variables) (now hints)) (now unit) end first ⌝ }
+    requires { ⌜ (length (now variables) ≤ 56) × (end ≤ length (now unit)) × (length (now unit) ≤ 262144) ⌝ }
+    ensures { λ r. ⌜ RowSized (contextOf (now (variables .entry)) (now (hints .entry)) (now (marks .entry))) (now (unit .entry)) end first r ⌝ }
 {
-    let head = found.head;
-    let mut c = Cursor {
-        at: found.body,
-        blocks: head.blocks,
-        inside: false,
-    };
-    let mut st = State {
-        block: 0,
-        emits: false,
-        scratch: 0,
-    };
-    let mut slots = 1;
+    let mut slots = 0;
     let mut relocs = 0;
-    edges[0] = 1;
-    loop {
-        let p = peek::peek(unit, c);
-        if p.kind == 0 {
-            return Size::Slots(slots, relocs);
-        }
-        let payload = &unit[c.at + 4..];
-        let taken = size_of_record(payload, variables, hints, marks, st, p.kind, c.at);
-        let size = taken.size;
+    let mut at = first;
+    while at < end {
+        let payload = &unit[at + 4..];
+        let condition = context::condition_of(variables, hints, marks, payload);
+        let size = size_of(at, size::size_instruction(condition, payload));
         match size {
             Size::Slots(s, r) => {
                 slots += s;
@@ -162,8 +70,124 @@ pub(crate) fn measure(
                 return Size::Refused(place, reason);
             }
         }
-        put_edge(edges, st.block, slots, p.kind);
-        st = walk::after(emitted, st, p.kind, taken.scratch);
-        c = p.next;
+        at = at + 4 + wire::get_u16(unit, at) as usize;
     }
+    Size::Slots(slots, relocs)
+}
+
+// ---- terminators
+
+// A terminator that loads a constant, which must lie in i32, and takes so many slots.
+fn size_of_constant(place: usize, z: i64, slots: u32) -> Size
+    ensures { λ r. ⌜ r ≡ loadSize place (Operand.Immediate z) slots ⌝ }
+{
+    if z < -2147483648 {
+        return Size::Refused(place, Reason::Immediate(z));
+    }
+    if z > 2147483647 {
+        return Size::Refused(place, Reason::Immediate(z));
+    }
+    Size::Slots(slots, 0)
+}
+
+// The same of any operand: a variable has a cell.
+fn size_of_loading(place: usize, o: Operand, slots: u32) -> Size
+    ensures { λ r. ⌜ r ≡ loadSize place o slots ⌝ }
+{
+    match o {
+        Operand::Var(_) => Size::Slots(slots, 0),
+        Operand::Immediate(z) => size_of_constant(place, z, slots),
+    }
+}
+
+// The terminator at a place, by its payload: each variable has a cell.
+fn size_of_ending(place: usize, payload: &[u8]) -> Size
+    ensures { λ r. ⌜ Sized (at place (terminator everyCell (terminatorIn (now (payload .entry)) 0))) r ⌝ }
+{
+    let form = wire::get_u8(payload, 0);
+    if form == 0 {
+        return size_of_loading(place, operand::operand_in(payload, 1), 2);
+    }
+    if form == 1 {
+        return Size::Slots(1, 0);
+    }
+    size_of_loading(place, operand::operand_in(payload, 1), 3)
+}
+
+// ---- blocks
+
+// A block whose instructions stand from a byte to another, where its terminator stands.
+fn size_of_block(
+    unit: &[u8],
+    variables: &[u32],
+    hints: &[u8; 256],
+    marks: &[u8; 56],
+    emits: bool,
+    first: usize,
+    end: usize,
+) -> Size
+    requires { ⌜ SomeBlock (frameBy (now variables) (now hints)) (now unit) first end ⌝ }
+    requires { ⌜ (length (now variables) ≤ 56) × (length (now unit) ≤ 262144) ⌝ }
+    ensures { λ r. ⌜ BlockTakes (contextOf (now (variables .entry)) (now (hints .entry)) (now (marks .entry))) (now (unit .entry)) emits first end r ⌝ }
+{
+    if emits {
+        match size_of_instructions(unit, variables, hints, marks, first, end) {
+            Size::Refused(place, reason) => {
+                return Size::Refused(place, reason);
+            }
+            Size::Slots(slots, relocs) => {
+                match size_of_ending(end, &unit[end + 4..]) {
+                    Size::Refused(place, reason) => {
+                        return Size::Refused(place, reason);
+                    }
+                    Size::Slots(s, r) => {
+                        return Size::Slots(slots + s, relocs + r);
+                    }
+                }
+            }
+        }
+    }
+    Size::Slots(0, 0)
+}
+
+// A unit that was read whole: slot 0, then the emitted blocks. Block k begins at edges[k] and ends before edges[k + 1].
+pub(crate) fn measure(
+    unit: &[u8],
+    found: Found,
+    variables: &[u32],
+    hints: &[u8; 256],
+    marks: &[u8; 56],
+    emitted: &[u8],
+    endings: &[u32],
+    edges: &mut [u32],
+) -> Size
+    requires { ⌜ readUnit (now unit) ≡ ReadUnit.Unit found ⌝ }
+    requires { ⌜ collected (blocksOf (parse (now unit))) ≡ all (now variables) ⌝ }
+    requires { ⌜ EndsAt (now unit) (now endings) × (found .head .blocks ≤ length (now emitted)) × (found .head .blocks + 1 ≤ length (now edges)) ⌝ }
+    ensures { λ r. ⌜ Measured (contextOf (now (variables .entry)) (now (hints .entry)) (now (marks .entry))) (marked (now (emitted .entry))) (blocksOf (parse (now (unit .entry)))) (now (edges .entry)) r (now (edges .exit)) ⌝ }
+{
+    let head = found.head;
+    let n = head.blocks as usize;
+    let mut slots = 1;
+    let mut relocs = 0;
+    let mut at = found.body;
+    edges[0] = 1;
+    let mut k = 0;
+    while k < n {
+        let end = endings[k] as usize;
+        let size = size_of_block(unit, variables, hints, marks, emitted[k] == 1, at + 8, end);
+        match size {
+            Size::Slots(s, r) => {
+                slots += s;
+                relocs += r;
+            }
+            Size::Refused(place, reason) => {
+                return Size::Refused(place, reason);
+            }
+        }
+        edges[k + 1] = slots;
+        at = end + 4 + wire::get_u16(unit, end) as usize;
+        k += 1;
+    }
+    Size::Slots(slots, relocs)
 }

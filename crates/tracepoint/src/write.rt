@@ -1,11 +1,8 @@
 // The code and the relocations of a unit, written where there is room for all of them.
 use crate::context;
-use crate::walk;
 use insn::Insn;
 use lower::Ending;
 use lower::MapUse;
-use passes::State;
-use unitfile::Cursor;
 use unitfile::Found;
 use unitfile::ReadUnit;
 use wire::number::ByteOffset;
@@ -13,7 +10,7 @@ use wire::number::SlotNumber;
 ghost use mathlib.Core.Path.{_≡_};
 ghost use mathlib.Core.Bool.{true};
 ghost use mathlib.Core.List.{List, [], _∷_};
-ghost use Prim.Native.Nat.{ℕ, _+_, _*_, _<_, _≤_};
+ghost use Prim.Native.Nat.{ℕ, _+_, _*_, _≤_, _<_};
 ghost use lib.ListN.{length, getD};
 ghost use lib.Seq.{sets};
 ghost use Rattle.unitfile.specs.Unit.{parse, readUnit};
@@ -23,14 +20,15 @@ ghost use Rattle.lower.specs.Operand.{fits16};
 ghost use Rattle.lower.specs.Held.{endingOps};
 ghost use Rattle.lower.specs.Payload.{scratchIn};
 ghost use Rattle.layout.specs.Layout.{at, ops, unitOps};
-ghost use Rattle.layout.specs.Jumps.{starts, lands, distance};
+ghost use Rattle.layout.specs.Jumps.{Start, starts, lands, distance};
 ghost use Rattle.layout.specs.Code.{insns, codeBytes, relocations};
 ghost use Rattle.layout.specs.Inner.{keepBy};
 ghost use Rattle.jumps.specs.Landed.{marked};
 ghost use Rattle.passes.specs.Inner.{contextOf};
-ghost use Rattle.passes.specs.Seen.{instructionBy, opsIn, ringAfter, endIn};
+ghost use Rattle.passes.specs.Notes.{EndsAt};
 ghost use Rattle.passes.specs.Tables.{relocsBy, Tables, Room, unitLanding};
-ghost use Rattle.passes.specs.Put.{slotTo, jumpOf, reaches, Relocates, RoomAt, Puts};
+ghost use Rattle.passes.specs.Put.{slotTo, jumpOf, insnsTo, reaches, Relocates, RoomAt, Puts, Written};
+ghost use Rattle.passes.specs.Places.{instructionBy, places, opsAt, ringAt, endSlot, endOps, blockOps, blockRing};
 
 // The next slot of the code, and how many numbers the relocations have so far.
 pub struct Front {
@@ -38,7 +36,7 @@ pub struct Front {
     pub relocs: usize,
 }
 
-// The front after a record, and the scratch ring's position.
+// The front after one or more records, and the scratch ring's position.
 pub struct Passed {
     pub front: Front,
     pub scratch: u8,
@@ -60,18 +58,20 @@ fn put_relocation(relocs: &mut [u32], front: Front, map: MapUse, slots: u32) -> 
 {
     let slot = front.slot;
     let t = front.relocs;
+    let next = SlotNumber(slot.0 + slots);
     match map {
         MapUse::Nothing => Front {
-            slot: SlotNumber(slot.0 + slots),
+            slot: next,
             relocs: t,
         },
         MapUse::Map(m) => {
+            let after = t + 2;
             let ByteOffset(bytes) = wire::number::byte_offset(slot);
             relocs[t] = bytes as u32;
             relocs[t + 1] = m;
             Front {
-                slot: SlotNumber(slot.0 + slots),
-                relocs: t + 2,
+                slot: next,
+                relocs: after,
             }
         }
     }
@@ -90,7 +90,7 @@ fn put_instruction(
 ) -> Passed
     requires { ⌜ length (now variables) ≤ 56 ⌝ }
     requires { ⌜ RoomAt (ops (at 0 (instructionBy (contextOf (now variables) (now hints) (now marks)) j (now payload)))) (front .slot .0) (front .relocs) (length (now code)) (length (now relocs)) ⌝ }
-    ensures { λ r. ⌜ ((a b : ℕ) → Puts a b (ops (at 0 (instructionBy (contextOf (now (variables .entry)) (now (hints .entry)) (now (marks .entry))) j (now (payload .entry))))) (front .slot .0) (front .relocs) (now (code .entry)) (now (relocs .entry)) (r .front .slot .0) (r .front .relocs) (now (code .exit)) (now (relocs .exit))) ⌝ }
+    ensures { λ r. ⌜ ((xs : List Start) → Puts (insns xs) (ops (at 0 (instructionBy (contextOf (now (variables .entry)) (now (hints .entry)) (now (marks .entry))) j (now (payload .entry))))) (front .slot .0) (front .relocs) (now (code .entry)) (now (relocs .entry)) (r .front .slot .0) (r .front .relocs) (now (code .exit)) (now (relocs .exit))) ⌝ }
     ensures { λ r. ⌜ r .scratch ≡ scratchIn j (now (payload .entry)) ⌝ }
 {
     let condition = context::condition_of(variables, hints, marks, payload);
@@ -126,12 +126,11 @@ fn jump(opcode: u8, target: SlotNumber, own: SlotNumber) -> Insn
     }
 }
 
-// The slot at which the block with a number begins; 1,024 is the number of none.
-fn first_slot(edges: &[u32; 1025], number: u32) -> SlotNumber
-    requires { ⌜ length (now edges) ≡ 1025 ⌝ }
+// The slot at which the block with a number begins; past the last edge it is the number of none.
+fn first_slot(edges: &[u32], number: u32) -> SlotNumber
     ensures { λ r. ⌜ r .0 ≡ getD (now (edges .entry)) number 0 ⌝ }
 {
-    if number < 1025 {
+    if (number as usize) < edges.len() {
         return SlotNumber(edges[number as usize]);
     }
     SlotNumber(0)
@@ -141,7 +140,7 @@ fn first_slot(edges: &[u32; 1025], number: u32) -> SlotNumber
 fn put_ending(code: &mut [u8], front: Front, t: Ending, a: SlotNumber, b: SlotNumber) -> Front
     requires { ⌜ reaches (a .0) (b .0) (front .slot .0) (ops (at 0 (endingOps t))) ≡ true ⌝ }
     requires { ⌜ (front .slot .0 + slotsOf (ops (at 0 (endingOps t))) ≤ 851969) × (8 * (front .slot .0 + slotsOf (ops (at 0 (endingOps t)))) ≤ length (now code)) ⌝ }
-    ensures { λ r. ⌜ ((relocs : List ℕ) → Puts (a .0) (b .0) (ops (at 0 (endingOps t))) (front .slot .0) (front .relocs) (now (code .entry)) relocs (r .slot .0) (r .relocs) (now (code .exit)) relocs) ⌝ }
+    ensures { λ r. ⌜ ((relocs : List ℕ) → Puts (insnsTo (a .0) (b .0)) (ops (at 0 (endingOps t))) (front .slot .0) (front .relocs) (now (code .entry)) relocs (r .slot .0) (r .relocs) (now (code .exit)) relocs) ⌝ }
 {
     let slot = front.slot;
     let s = slot.0;
@@ -186,60 +185,98 @@ fn put_ending(code: &mut [u8], front: Front, t: Ending, a: SlotNumber, b: SlotNu
     }
 }
 
-// ---- records
+// ---- blocks
 
-// What a record becomes, by its kind and its payload, in the block of a state.
-fn put_record(
-    payload: &[u8],
+// What the instructions become whose records stand from a byte to another.
+fn put_instructions(
+    unit: &[u8],
     variables: &[u32],
     hints: &[u8; 256],
     marks: &[u8; 56],
-    edges: &[u32; 1025],
-    numbers: &[u32; 2048],
-    st: State,
-    kind: u16,
+    first: usize,
+    end: usize,
     code: &mut [u8],
     relocs: &mut [u32],
     front: Front,
+    scratch: u8,
 ) -> Passed
-    requires { ⌜ (length (now variables) ≤ 56) × (length (now edges) ≡ 1025) × (length (now numbers) ≡ 2048) × (st .block + length (endIn 0 kind) ≤ 1024) ⌝ }
-    requires { ⌜ RoomAt (ops (opsIn (contextOf (now variables) (now hints) (now marks)) st 0 kind (now payload))) (front .slot .0) (front .relocs) (length (now code)) (length (now relocs)) ⌝ }
-    requires { ⌜ reaches (slotTo (now edges) (now numbers) (2 * st .block)) (slotTo (now edges) (now numbers) (2 * st .block + 1)) (front .slot .0) (ops (opsIn (contextOf (now variables) (now hints) (now marks)) st 0 kind (now payload))) ≡ true ⌝ }
-    ensures { λ r. ⌜ Puts (slotTo (now (edges .entry)) (now (numbers .entry)) (2 * st .block)) (slotTo (now (edges .entry)) (now (numbers .entry)) (2 * st .block + 1)) (ops (opsIn (contextOf (now (variables .entry)) (now (hints .entry)) (now (marks .entry))) st 0 kind (now (payload .entry)))) (front .slot .0) (front .relocs) (now (code .entry)) (now (relocs .entry)) (r .front .slot .0) (r .front .relocs) (now (code .exit)) (now (relocs .exit)) ⌝ }
-    ensures { λ r. ⌜ r .scratch ≡ ringAfter st kind (now (payload .entry)) ⌝ }
+    requires { ⌜ (length (now variables) ≤ 56) × (end + 4 ≤ length (now unit)) × (length (now unit) ≤ 262144) ⌝ }
+    requires { ⌜ RoomAt (opsAt (contextOf (now variables) (now hints) (now marks)) (now unit) scratch (places (now unit) first end)) (front .slot .0) (front .relocs) (length (now code)) (length (now relocs)) ⌝ }
+    ensures { λ r. ⌜ ((xs : List Start) → Puts (insns xs) (opsAt (contextOf (now (variables .entry)) (now (hints .entry)) (now (marks .entry))) (now (unit .entry)) scratch (places (now (unit .entry)) first end)) (front .slot .0) (front .relocs) (now (code .entry)) (now (relocs .entry)) (r .front .slot .0) (r .front .relocs) (now (code .exit)) (now (relocs .exit))) ⌝ }
+    ensures { λ r. ⌜ r .scratch ≡ ringAt (now (unit .entry)) scratch (places (now (unit .entry)) first end) ⌝ }
 {
-    if st.emits {
-        if kind == 4 {
-            return put_instruction(
-                variables,
-                hints,
-                marks,
-                st.scratch,
-                payload,
-                code,
-                relocs,
-                front,
-            );
-        }
-        if kind == 5 {
-            let k = st.block;
-            let a = first_slot(edges, numbers[2 * k]);
-            let b = first_slot(edges, numbers[2 * k + 1]);
-            let t = peek::terminator::terminator_in(payload, 0);
-            let ending = lower::lower_terminator(variables, hints, t);
-            return Passed {
-                front: put_ending(code, front, ending, a, b),
-                scratch: st.scratch,
-            };
-        }
+    let mut at = first;
+    let mut passed = Passed {
+        front: front,
+        scratch: scratch,
+    };
+    while at < end {
+        let payload = &unit[at + 4..];
+        let f = passed.front;
+        passed = put_instruction(
+            variables,
+            hints,
+            marks,
+            passed.scratch,
+            payload,
+            code,
+            relocs,
+            f,
+        );
+        at = at + 4 + wire::get_u16(unit, at) as usize;
+    }
+    passed
+}
+
+// What block k becomes, if it is emitted: the instructions from a byte on, then the terminator at the byte `end`.
+fn put_block(
+    unit: &[u8],
+    variables: &[u32],
+    hints: &[u8; 256],
+    marks: &[u8; 56],
+    emitted: &[u8],
+    edges: &[u32],
+    numbers: &[u32],
+    k: usize,
+    first: usize,
+    end: usize,
+    code: &mut [u8],
+    relocs: &mut [u32],
+    front: Front,
+    scratch: u8,
+) -> Passed
+    requires { ⌜ (length (now variables) ≤ 56) × (end + 4 ≤ length (now unit)) × (length (now unit) ≤ 262144) × (k < 1024) × (k < length (now emitted)) × (2 * k + 2 ≤ length (now numbers)) ⌝ }
+    requires { ⌜ RoomAt (blockOps (contextOf (now variables) (now hints) (now marks)) (now unit) (marked (now emitted) k) scratch first end) (front .slot .0) (front .relocs) (length (now code)) (length (now relocs)) ⌝ }
+    requires { ⌜ reaches (slotTo (now edges) (now numbers) (2 * k)) (slotTo (now edges) (now numbers) (2 * k + 1)) (endSlot (contextOf (now variables) (now hints) (now marks)) (now unit) scratch first end (front .slot .0)) (endOps (contextOf (now variables) (now hints) (now marks)) (now unit) (marked (now emitted) k) end) ≡ true ⌝ }
+    ensures { λ r. ⌜ ((xs : List Start) → Written xs (slotTo (now (edges .entry)) (now (numbers .entry)) (2 * k)) (slotTo (now (edges .entry)) (now (numbers .entry)) (2 * k + 1)) (endSlot (contextOf (now (variables .entry)) (now (hints .entry)) (now (marks .entry))) (now (unit .entry)) scratch first end (front .slot .0)) (endOps (contextOf (now (variables .entry)) (now (hints .entry)) (now (marks .entry))) (now (unit .entry)) (marked (now (emitted .entry)) k) end) → Puts (insns xs) (blockOps (contextOf (now (variables .entry)) (now (hints .entry)) (now (marks .entry))) (now (unit .entry)) (marked (now (emitted .entry)) k) scratch first end) (front .slot .0) (front .relocs) (now (code .entry)) (now (relocs .entry)) (r .front .slot .0) (r .front .relocs) (now (code .exit)) (now (relocs .exit))) ⌝ }
+    ensures { λ r. ⌜ r .scratch ≡ blockRing (now (unit .entry)) (marked (now (emitted .entry)) k) scratch first end ⌝ }
+{
+    if emitted[k] == 1 {
+        let passed = put_instructions(
+            unit,
+            variables,
+            hints,
+            marks,
+            first,
+            end,
+            code,
+            relocs,
+            front,
+            scratch,
+        );
+        let a = first_slot(edges, numbers[2 * k]);
+        let b = first_slot(edges, numbers[2 * k + 1]);
+        let t = peek::terminator::terminator_in(unit, end + 4);
+        let ending = lower::lower_terminator(variables, hints, t);
+        let f = passed.front;
         return Passed {
-            front: front,
-            scratch: st.scratch,
+            front: put_ending(code, f, ending, a, b),
+            scratch: passed.scratch,
         };
     }
     Passed {
         front: front,
-        scratch: st.scratch,
+        scratch: scratch,
     }
 }
 
@@ -250,14 +287,15 @@ pub(crate) fn write_unit(
     variables: &[u32],
     hints: &[u8; 256],
     marks: &[u8; 56],
-    emitted: &[u8; 1024],
-    edges: &[u32; 1025],
-    numbers: &[u32; 2048],
+    emitted: &[u8],
+    endings: &[u32],
+    edges: &[u32],
+    numbers: &[u32],
     code: &mut [u8],
     relocs: &mut [u32],
 )
     requires { ⌜ readUnit (now unit) ≡ ReadUnit.Unit found ⌝ }
-    requires { ⌜ (length (now variables) ≤ 56) × (length (now emitted) ≡ 1024) × (length (now edges) ≡ 1025) × (length (now numbers) ≡ 2048) ⌝ }
+    requires { ⌜ (length (now variables) ≤ 56) × EndsAt (now unit) (now endings) × (found .head .blocks ≤ length (now emitted)) × (2 * found .head .blocks ≤ length (now numbers)) ⌝ }
     requires { ⌜ Tables (contextOf (now variables) (now hints) (now marks)) (marked (now emitted)) (blocksOf (parse (now unit))) (now edges) (now numbers) ⌝ }
     requires { ⌜ unitLanding (contextOf (now variables) (now hints) (now marks)) (marked (now emitted)) (blocksOf (parse (now unit))) ≡ lands ⌝ }
     requires { ⌜ Room (ops (unitOps (contextOf (now variables) (now hints) (now marks)) (keepBy (marked (now emitted)) 0 (blocksOf (parse (now unit)))))) (length (now code)) (length (now relocs)) ⌝ }
@@ -265,16 +303,7 @@ pub(crate) fn write_unit(
     ensures { λ _. ⌜ now (relocs .exit) ≡ sets (now (relocs .entry)) 0 (relocations 0 (ops (unitOps (contextOf (now (variables .entry)) (now (hints .entry)) (now (marks .entry))) (keepBy (marked (now (emitted .entry))) 0 (blocksOf (parse (now (unit .entry)))))))) ⌝ }
 {
     let head = found.head;
-    let mut c = Cursor {
-        at: found.body,
-        blocks: head.blocks,
-        inside: false,
-    };
-    let mut st = State {
-        block: 0,
-        emits: false,
-        scratch: 0,
-    };
+    let n = head.blocks as usize;
     put(
         code,
         SlotNumber(0),
@@ -286,31 +315,35 @@ pub(crate) fn write_unit(
             imm: 0,
         },
     );
-    let mut front = Front {
-        slot: SlotNumber(1),
-        relocs: 0,
+    let mut passed = Passed {
+        front: Front {
+            slot: SlotNumber(1),
+            relocs: 0,
+        },
+        scratch: 0,
     };
-    loop {
-        let p = peek::peek(unit, c);
-        if p.kind == 0 {
-            return;
-        }
-        let payload = &unit[c.at + 4..];
-        let passed = put_record(
-            payload,
+    let mut at = found.body;
+    let mut k = 0;
+    while k < n {
+        let end = endings[k] as usize;
+        let f = passed.front;
+        passed = put_block(
+            unit,
             variables,
             hints,
             marks,
+            emitted,
             edges,
             numbers,
-            st,
-            p.kind,
+            k,
+            at + 8,
+            end,
             code,
             relocs,
-            front,
+            f,
+            passed.scratch, // the ring goes on through the unit
         );
-        front = passed.front;
-        st = walk::after(emitted, st, p.kind, passed.scratch);
-        c = p.next;
+        at = end + 4 + wire::get_u16(unit, end) as usize;
+        k += 1;
     }
 }

@@ -1,11 +1,8 @@
-pub mod Choice
 pub mod Run
 pub mod Skips
 pub mod Blocks
 pub mod Places
 pub mod Sizes
-pub mod Same
-pub mod MapLaws
 pub mod Whole
 pub mod NamePlace
 pub mod Units

@@ -6,21 +6,14 @@ use Prim.Native.Nat.{ℕ, zero, suc, _+_, _<_, _≤_}
 use native.Mathlib.Nat.{add-zero, zero-add}
 use native.Mathlib.Omega.{arith}
 use borrow.Author.Tests.{lt-ltb, le-ltb, ltb-true, ltb-false}
-use lib.Dec.{leb, ltb}
-use lib.ListN.{length, getD, take, drop, length-append, length-drop, List·getD-eq-default}
-use lib.Seq.{take-all, take-take, take-append-seam, length-take-le}
+use lib.Dec.{ltb}
+use lib.ListN.{length, getD, take, length-append, List·getD-eq-default}
 use Rattle.wire.specs.Pick.{pick}
 use Rattle.record.specs.Frame.{nextAt}
 use Rattle.record.specs.declared.Head.{Head}
-use Rattle.record.specs.declared.Record.{Record}
-use Rattle.record.specs.declared.Record.the-variants as R
-use Rattle.record.specs.declared.Due.the-variants as Du
 use Rattle.record.specs.declared.Fault.{Fault}
-use Rattle.record.specs.declared.Read.{Read}
-use Rattle.record.specs.declared.Read.the-variants as Re
-use Rattle.record.proofs.RecordLaws.{record-taken}
-use Rattle.unitfile.specs.Names.{part, named, namesAt, firstRecord}
-use Rattle.unitfile.specs.Inner.{headOf, onMapAt, mapFrom}
+use Rattle.opening.specs.Names.{part, named, namesAt, firstRecord}
+use Rattle.opening.specs.Places.{headOf, onMapAt, mapFrom}
 use Rattle.unitfile.specs.Unit.{Parsed, parsed, refused, parse, readUnit}
 use Rattle.unitfile.specs.MapName.{nameOf, namedOf, mapBytes, placeOf}
 use Rattle.unitfile.specs.declared.Found.{Found}
@@ -30,10 +23,11 @@ use Rattle.unitfile.specs.declared.Named.{Named}
 use Rattle.unitfile.specs.declared.Named.the-variants as N
 use Rattle.unitfile.specs.declared.ReadUnit.{ReadUnit}
 use Rattle.unitfile.specs.declared.ReadUnit.the-variants as U
-use Rattle.unitfile.specs.declared.names.MapAt.the-variants as M
-use Rattle.unitfile.specs.declared.names.HeadAt.the-variants as H
-use Rattle.unitfile.proofs.Choice.{pick-ind}
-use Rattle.unitfile.proofs.MapLaws.{is-map, read-one}
+use Rattle.opening.specs.declared.MapAt.the-variants as M
+use Rattle.opening.specs.declared.HeadAt.the-variants as H
+use Rattle.opening.proofs.Choice.{pick-ind}
+use Rattle.opening.proofs.Heads.{after-head}
+use Rattle.opening.proofs.MapLaws.{is-map, read-one, part-length, names-front}
 use Rattle.unitfile.proofs.Whole.{Whole, whole, refused-whole, names-all, name-is, name-place, name-from}
 
 -- ---- the maps before it
@@ -42,24 +36,6 @@ map-bytes-more : (l : List (List ℕ)) (name : List ℕ) → mapBytes (l ++ (nam
 unfolding mapBytes
 map-bytes-more [] name = omega arith
 map-bytes-more (n ∷ l) name = let r = map-bytes-more l name in omega arith
-
--- a name that lies in the bytes has its length
-part-length : (start len : ℕ) (b : List ℕ) → start + len ≤ length b → length (part start len b) ≡ len
-part-length start len b h = length-take-le len (drop start b) (simp length-drop (omega arith))
-
--- the names before come first
-names-front : (b : List ℕ) (n : ℕ) (names : List (List ℕ)) (at : ℕ) (all : List (List ℕ)) (end : ℕ) → namesAt b names at n ≡ named all end → take (length names) all ≡ names
-unfolding namesAt
-names-front b zero names at all end e =
-    let z : names ≡ all = cc in
-    ap (take (length names)) (sym z) ∙ take-all (length names) names (omega arith)
-names-front b (suc n) names at all end e =
-    let r = read-one b names at n all end e in
-    let name = part (r .start) (r .len) b in
-    let m = length-append names (name ∷ []) in
-    sym (take-take (length names) (length (names ++ (name ∷ []))) all (omega arith))
-    ∙ ap (take (length names)) (names-front b n (names ++ (name ∷ [])) (r .next) all end (r .rest))
-    ∙ take-append-seam names (name ∷ [])
 
 place-from : (b : List ℕ) (n k : ℕ) (names : List (List ℕ)) (at : ℕ) (all : List (List ℕ)) (end : ℕ) → namesAt b names at n ≡ named all end → k < n → (start len next : ℕ) → mapFrom b at k ≡ M.Is start len next → start + mapBytes names ≡ at + mapBytes (take (length names + k) all) + 4
 unfolding mapFrom onMapAt
@@ -80,27 +56,6 @@ place-from b (suc n) (suc k) names at all end e h start len next f =
     omega (arith, rw j at i, m .begins, m .ends)
 
 -- ---- as the code finds it
-
-first-by : (b : List ℕ) (x : Read) → firstRecord b ≡ x → (h : Head) (first : ℕ) → headOf x ≡ H.Is h first → firstRecord b ≡ Re.Record (R.Head h) first
-unfolding headOf
-first-by b (Re.Record (R.Head g) next) p h first e =
-    let q : g ≡ h = cc in
-    let r : next ≡ first = cc in
-    cc
-first-by b (Re.Record (R.Map start len) next) p h first e = let z : _≡_ {A = ℕ} 0 1 = cc in absurd (omega arith)
-first-by b (Re.Record (R.Block i) next) p h first e = let z : _≡_ {A = ℕ} 0 1 = cc in absurd (omega arith)
-first-by b (Re.Record (R.Instruction i) next) p h first e = let z : _≡_ {A = ℕ} 0 1 = cc in absurd (omega arith)
-first-by b (Re.Record (R.Terminator i) next) p h first e = let z : _≡_ {A = ℕ} 0 1 = cc in absurd (omega arith)
-first-by b (Re.Refused f) p h first e = let z : _≡_ {A = ℕ} 0 1 = cc in absurd (omega arith)
-
--- the byte after the head
-after-head : (b : List ℕ) (h : Head) (first : ℕ) → headOf (firstRecord b) ≡ H.Is h first → first ≡ nextAt b 0
-unfolding firstRecord
-after-head b h first e =
-    pick-ind (λ (x : Read). x ≡ Re.Record (R.Head h) first → first ≡ nextAt b 0) (leb (length b) 262144) _ _
-    (λ t p. record-taken b 0 Du.Head 0 (R.Head h) first p .ends)
-    (λ t p. let z : _≡_ {A = ℕ} 0 1 = cc in absurd (omega arith))
-    (first-by b (firstRecord b) refl h first e)
 
 module _ (b : List ℕ) (found : Found) (w : Whole b found) where
   pub place-at : (h : Head) (first k : ℕ) → headOf (firstRecord b) ≡ H.Is h first → k < found .head .maps → (start len next : ℕ) → mapFrom b first k ≡ M.Is start len next → placeOf b (parse b) k ≡ P.At start len

@@ -23,7 +23,7 @@ use Rattle.unitfile.specs.declared.Cursor.{Cursor}
 use Rattle.unitfile.specs.declared.Step.{Step}
 use Rattle.unitfile.specs.declared.Step.the-variants.{Go, End, Refused}
 use Rattle.record.proofs.RecordLaws.{Came, Taken, record-taken}
-use Rattle.unitfile.proofs.Choice.{pick-ind}
+use Rattle.opening.proofs.Choice.{pick-ind}
 
 -- ---- one step
 

@@ -39,7 +39,7 @@ use Rattle.record.proofs.Instructions.{right-size}
 use Rattle.unitfile.specs.declared.Cursor.{Cursor}
 use Rattle.unitfile.specs.declared.Step.the-variants.{Go}
 use Rattle.unitfile.specs.Records.{Placed, records, nextRecord, recordsFrom}
-use Rattle.unitfile.proofs.Choice.{pick-ind}
+use Rattle.opening.proofs.Choice.{pick-ind}
 use Rattle.unitfile.proofs.Run.{taken, ended, came, came-end}
 
 unfoldable pub payloadSize : Record → ℕ

@@ -14,7 +14,7 @@ use Rattle.unitfile.specs.MapName.{nameOf}
 use Rattle.unitfile.specs.declared.Found.{Found}
 use Rattle.unitfile.specs.declared.ReadUnit.{ReadUnit}
 use Rattle.unitfile.specs.declared.ReadUnit.the-variants as U
-use Rattle.unitfile.proofs.MapLaws.{is-map, Distinct, names-distinct}
+use Rattle.opening.proofs.MapLaws.{is-map, Distinct, names-distinct}
 use Rattle.unitfile.proofs.Whole.{Whole, whole, refused-whole, name-place}
 use Rattle.unitfile.proofs.Units.{unit, unit-of}
 

@@ -1,4 +1,3 @@
-pub mod Names
 pub mod Records
 pub mod Unit
 pub mod MapName

@@ -12,7 +12,7 @@ use Rattle.unitfile.specs.declared.Cursor.{Cursor}
 use Rattle.unitfile.specs.declared.Found.{Found}
 use Rattle.unitfile.specs.declared.ReadUnit.{ReadUnit}
 use Rattle.unitfile.specs.declared.ReadUnit.the-variants as U
-use Rattle.unitfile.specs.Names.{Opened, opened, shut, openUnit}
+use Rattle.opening.specs.Names.{Opened, opened, shut, openUnit}
 use Rattle.unitfile.specs.Records.{Placed, Records, recordsFrom}
 use Rattle.unitfile.specs.Records as rs
 

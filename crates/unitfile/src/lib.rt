@@ -1,9 +1,9 @@
 // The whole unit file.
-mod names;
 mod walk;
 
-use names::HeadAt;
-use names::MapAt;
+use opening::BodyAt;
+use opening::HeadAt;
+use opening::MapAt;
 use record::Due;
 use record::Fault;
 use record::Head;
@@ -101,11 +101,16 @@ pub fn next_record(s: &[u8], maps: u16, c: Cursor) -> Step
 pub fn read_unit(s: &[u8]) -> ReadUnit
     ensures { λ r. ⌜ r ≡ readUnit (now (s .entry)) ⌝ }
 {
-    let opened = names::open_unit(s);
-    let ReadUnit::Unit(found) = opened else {
-        return opened;
-    };
-    walk::read_blocks(s, found)
+    match opening::open_unit(s) {
+        BodyAt::Is(head, body) => walk::read_blocks(
+            s,
+            Found {
+                head: head,
+                body: body,
+            },
+        ),
+        BodyAt::Refused(f) => ReadUnit::Refused(f),
+    }
 }
 
 // Where the bytes of a map's name lie inside the unit.
@@ -116,14 +121,14 @@ pub fn map_place(s: &[u8], map: u32) -> MapPlace
         ReadUnit::Unit(found) => {
             let head = found.head;
             if map < head.maps as u32 {
-                let HeadAt::Is(_, first) = names::head_at(s) else {
+                let HeadAt::Is(_, first) = opening::head_at(s) else {
                     return MapPlace::NoSuchMap;
                 };
                 let MapAt::Is {
                     start,
                     len,
                     next: _,
-                } = names::map_from(s, first, map)
+                } = opening::map_from(s, first, map)
                 else {
                     return MapPlace::NoSuchMap;
                 };

@@ -13,7 +13,7 @@ ghost use Rattle.unitfile.specs.Unit.{firstBlock, foundWith};
 ghost use Rattle.unitfile.specs.Inner.{faultOf, skipOf, onChecked};
 
 // Why no record was read, where none was.
-pub(crate) fn fault(read: Read) -> Fault
+fn fault(read: Read) -> Fault
     ensures { λ r. ⌜ r ≡ faultOf read ⌝ }
 {
     match read {

@@ -15,9 +15,6 @@ Inv-loop keys n bound p lo₀ hi₀ lo hi =
 abbrev μ-loop : tie.MeasureT-loop
 μ-loop keys n bound p lo₀ hi₀ lo hi = hi - lo
 
-guess-requires : tie.Need-guess-requires Inv-loop μ-loop
-guess-requires c κs = search needs
-
 at-least-requires : tie.Need-at-least-requires Inv-loop μ-loop
 at-least-requires c κs = search needs
 
@@ -26,7 +23,7 @@ at-most-requires c κs = search needs
 
 loop-holds : tie.Need-loop-holds Inv-loop μ-loop
 loop-holds c =
-    let a = c .before .before .before .before .args in
+    let a = c .before .before .before .args in
     let s = length-take-le (a .n) (a .keys .now) (omega arith) in
     (omega arith, omega arith, c .before .at-least .ensures .1, λ k h q. c .at-most .ensures .2 k h (omega arith))
 
@@ -51,13 +48,13 @@ loop-less c = omega arith
 loop-again : tie.Need-loop-again Inv-loop μ-loop
 loop-again c =
     let l = c .before .before .before in
-    let f = l .before .before .before .before .before in
+    let f = l .before .before .before .before in
     let a = f .args in
     let s = length-take-le (a .n) (a .keys .now) (omega arith) in
     let mid = l .loop .lo + (l .loop .hi - l .loop .lo) / 2 in
     let b : mid < a .n = omega arith in
     let e = getD-take (a .n) (a .keys .now) mid 0 b in
-    (omega arith, omega arith, cut-up (take (a .n) (a .keys .now)) (f .pre .1) (a .bound) mid (omega arith) (omega arith), l .loop .inv .3)
+    (omega arith, omega arith, cut-up (take (a .n) (a .keys .now)) (f .pre .2) (a .bound) mid (omega arith) (omega arith), l .loop .inv .3)
 
 loop-less-2 : tie.Need-loop-less-2 Inv-loop μ-loop
 loop-less-2 c = omega arith
@@ -65,18 +62,18 @@ loop-less-2 c = omega arith
 loop-again-2 : tie.Need-loop-again-2 Inv-loop μ-loop
 loop-again-2 c =
     let l = c .before .before .before in
-    let f = l .before .before .before .before .before in
+    let f = l .before .before .before .before in
     let a = f .args in
     let s = length-take-le (a .n) (a .keys .now) (omega arith) in
     let mid = l .loop .lo + (l .loop .hi - l .loop .lo) / 2 in
     let b : mid < a .n = omega arith in
     let e = getD-take (a .n) (a .keys .now) mid 0 b in
-    (omega arith, omega arith, l .loop .inv .2, λ k h q. cut-down (take (a .n) (a .keys .now)) (f .pre .1) (a .bound) mid (omega arith) (omega arith) k h (omega arith))
+    (omega arith, omega arith, l .loop .inv .2, λ k h q. cut-down (take (a .n) (a .keys .now)) (f .pre .2) (a .bound) mid (omega arith) (omega arith) k h (omega arith))
 
 returns : tie.Need-returns Inv-loop μ-loop
 returns c =
     let l = c .before in
-    let f = l .before .before .before .before .before in
+    let f = l .before .before .before .before in
     let a = f .args in
     let s = length-take-le (a .n) (a .keys .now) (omega arith) in
     record { most = omega arith; under = l .loop .inv .2; over = λ k h q. l .loop .inv .3 k (omega arith) (omega arith) }
@@ -87,7 +84,6 @@ below-spec =
     (tie.spec
     Inv-loop
     μ-loop
-    guess-requires
     at-least-requires
     at-most-requires
     loop-holds

@@ -1,9 +1,12 @@
 -- `find` looks at the last key below the next id's.
 use native.Mathlib.Omega.{arith}
 use borrow.Author.Needs.{needs}
-use Rattle.flow.proofs.Keys.{keyed-ascends, find-none, found-inside, find-here, find-other}
+use Rattle.flow.proofs.Keys.{keyed-ascends, find-none, found-inside, found-block, find-here, find-other}
 use Rattle.flow.proofs.find.Statement.{statement}
 use Rattle.flow.proofs.find.Tie as tie
+
+guess-requires : tie.Need-guess-requires
+guess-requires c κs = search needs
 
 mul-below : tie.Need-mul-below
 mul-below c = search needs
@@ -13,12 +16,12 @@ add-below c = search needs
 
 below-requires : tie.Need-below-requires
 below-requires c κs =
-    let d = c .before .before .pre in
-    (omega (arith, d .count, d .room), keyed-ascends d)
+    let d = c .before .before .before .before .pre in
+    (omega (arith, c .guess .ensures), d .room, keyed-ascends d)
 
 returns : tie.Need-returns
 returns c =
-    let s = c .before .before .before .before in
+    let s = c .before .before .before .before .before .before in
     let a = s .args in
     find-none (s .pre) (a .id) (c .before .below .ensures) (c .if1 .taken)
 
@@ -27,14 +30,14 @@ sub-number c = search needs
 
 mul-number : tie.Need-mul-number
 mul-number c =
-    let s = c .before .before .before .before in
+    let s = c .before .before .before .before .before .before in
     let a = s .args in
     let d = s .pre in
     omega (arith, d .count, found-inside d (a .id) (c .before .below .ensures) (omega arith))
 
 shared-slice-read-number : tie.Need-shared-slice-read-number
 shared-slice-read-number c =
-    let s = c .before .before .before .before .before in
+    let s = c .before .before .before .before .before .before .before in
     let a = s .args in
     let d = s .pre in
     let b = c .before .before .below in
@@ -44,21 +47,26 @@ mul-if2 : tie.Need-mul-if2
 mul-if2 c = search needs
 
 shared-slice-read-if2 : tie.Need-shared-slice-read-if2
-shared-slice-read-if2 c = search needs
+shared-slice-read-if2 c =
+    let s = c .before .before .before .before .before .before .before .before in
+    let a = s .args in
+    let d = s .pre in
+    let b = c .before .before .before .below in
+    omega (arith, d .size, found-block d (a .id) (b .ensures) (omega arith))
 
 cast-result : tie.Need-cast-result
 cast-result c = search needs
 
 returns-2 : tie.Need-returns-2
 returns-2 c =
-    let s = c .before .before .before .before .before .before .before in
+    let s = c .before .before .before .before .before .before .before .before .before in
     let a = s .args in
     let b = c .before .before .before .before .below in
     find-here (s .pre) (a .id) (b .ensures) (omega arith) (c .if2 .taken)
 
 returns-3 : tie.Need-returns-3
 returns-3 c =
-    let s = c .before .before .before .before .before .before .before in
+    let s = c .before .before .before .before .before .before .before .before .before in
     let a = s .args in
     let b = c .before .before .before .before .below in
     find-other (s .pre) (a .id) (b .ensures) (omega arith) (c .if2 .left)
@@ -67,6 +75,7 @@ pub find-spec : {M : Type 1} → statement M
 find-spec =
     tie.close
     (tie.spec
+    guess-requires
     mul-below
     add-below
     below-requires

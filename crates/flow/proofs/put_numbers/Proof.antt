@@ -10,11 +10,11 @@ use Rattle.flow.proofs.put_numbers.Statement.{statement}
 use Rattle.flow.proofs.put_numbers.Tie as tie
 
 abbrev Inv-loop : tie.InvT-loop
-Inv-loop n ids keys targets₀ j₀ targets j =
+Inv-loop n ids keys guesses targets₀ j₀ targets j =
     (j ≤ 2 * n) × (length targets ≡ length targets₀) × (sets targets j (numbers (take n ids) (slice j (2 * n) targets)) ≡ sets targets₀ 0 (numbers (take n ids) (take (2 * n) targets₀)))
 
 abbrev μ-loop : tie.MeasureT-loop
-μ-loop n ids keys targets₀ j₀ targets j = 2 * n - j
+μ-loop n ids keys guesses targets₀ j₀ targets j = 2 * n - j
 
 loop-holds : tie.Need-loop-holds Inv-loop μ-loop
 loop-holds c = (omega arith, refl, refl)
@@ -29,7 +29,7 @@ slice-read-find : tie.Need-slice-read-find Inv-loop μ-loop
 slice-read-find c = omega arith
 
 find-requires : tie.Need-find-requires Inv-loop μ-loop
-find-requires c κs = c .before .before .before .before .before .before .pre .0
+find-requires c κs = c .before .before .before .before .before .before .before .pre .0
 
 mul-targets : tie.Need-mul-targets Inv-loop μ-loop
 mul-targets c = omega arith
@@ -46,7 +46,7 @@ loop-less c = omega arith
 loop-again : tie.Need-loop-again Inv-loop μ-loop
 loop-again c =
     let l = c .before .before .before in
-    let s = l .before .before .before .before in
+    let s = l .before .before .before .before .before in
     let a = s .args in
     let b = s .pre .1 in
     let e = numbers-step (take (a .n) (a .ids .now)) (l .loop .targets) (2 * a .n) (l .loop .j) (c .find .result) (omega arith) (omega arith) (c .find .ensures) in
@@ -58,7 +58,7 @@ same-length c = c .before .loop .inv .1
 returns : tie.Need-returns Inv-loop μ-loop
 returns c =
     let l = c .before in
-    let a = l .before .before .before .before .args in
+    let a = l .before .before .before .before .before .args in
     sym (numbers-end (take (a .n) (a .ids .now)) (l .loop .targets) (2 * a .n) (l .loop .j) (omega arith)) ∙ l .loop .inv .2
 
 pub put-numbers-spec : {M : Type 1} → statement M

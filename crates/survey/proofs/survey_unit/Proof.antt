@@ -20,10 +20,16 @@ survey-blocks-requires c κs = (sym (c .before .before .before .before .before .
 enum-known-f : tie.Need-enum-known-f
 enum-known-f c = search needs
 
+same-length : tie.Need-same-length
+same-length c = search needs
+
+same-length-2 : tie.Need-same-length-2
+same-length-2 c = search needs
+
 returns : tie.Need-returns
 returns c =
-    let e = sym (c .before .before .before .before .before .before .before .read-unit .ensures) ∙ c .before .before .before .before .before .found .given .1 in
-    let l = c .survey-blocks .ensures in
+    let e = sym (c .before .before .before .before .before .before .before .before .before .before .before .read-unit .ensures) ∙ c .before .before .before .before .before .before .before .before .before .found .given .1 in
+    let l = c .before .before .before .before .survey-blocks .ensures in
     (l .0 ∙ unit-answer _ _ e, l .1)
 
 returns-2 : tie.Need-returns-2
@@ -40,5 +46,7 @@ survey-unit-spec =
     enum-known-found
     survey-blocks-requires
     enum-known-f
+    same-length
+    same-length-2
     returns
     returns-2)

@@ -1,35 +1,17 @@
--- `keep` is an STX to the cell.
+-- `keep` is the word alone.
 use mathlib.Core.Path.{_∙_}
-use mir.Syntax.{w16}
-use Rattle.wire.proofs.Sign.{back}
-use Rattle.insn.specs.Rfc.{sizeField}
-use Rattle.insn.specs.Form.{opcodeOf}
-use Rattle.lower.specs.Op.{insn}
-use Rattle.lower.specs.Operand.{keep, onCell}
-use Rattle.lower.specs.Step.{pieceOf, outcomeOf, opsOf, all, one}
 use borrow.Author.Needs.{needs}
 use Rattle.lower.proofs.piece.keep.Statement.{statement}
 use Rattle.lower.proofs.piece.keep.Tie as tie
 
-cell-at-requires : tie.Need-cell-at-requires
-cell-at-requires c κs = search needs
+keep-word-requires : tie.Need-keep-word-requires
+keep-word-requires c κs = search needs
 
-enum-known-offset : tie.Need-enum-known-offset
-enum-known-offset c = search needs
-
-plain-requires : tie.Need-plain-requires
-plain-requires c κs = search needs
-
-enum-told : tie.Need-enum-told
-enum-told c = search needs
+single-requires : tie.Need-single-requires
+single-requires c κs = search needs
 
 returns : tie.Need-returns
-unfolding keep onCell insn opcodeOf sizeField one
-returns c = c .plain .ensures ∙ rw (← c .before .before .before .before .cell-at .ensures, c .before .before .offset .given .1, back w16 (c .before .before .offset .given .0 .0) (c .before .known-told .given .0 .1))
-
-returns-2 : tie.Need-returns-2
-unfolding pieceOf outcomeOf opsOf all keep onCell
-returns-2 c = rw (← c .before .before .cell-at .ensures, c .enum-told .given .1)
+returns c = c .single .ensures ∙ c .before .keep-word .ensures
 
 pub keep-spec : {M : Type 1} → statement M
-keep-spec = tie.close (tie.spec cell-at-requires enum-known-offset plain-requires enum-told returns returns-2)
+keep-spec = tie.close (tie.spec keep-word-requires single-requires returns)

@@ -1,21 +1,17 @@
--- `load` is the step alone.
+-- `load` is the word alone.
 use mathlib.Core.Path.{_∙_}
-use Rattle.frame.specs.Hint.{frameBy}
-use Rattle.lower.proofs.Pieces.{small-load}
 use borrow.Author.Needs.{needs}
 use Rattle.lower.proofs.piece.load.Statement.{statement}
 use Rattle.lower.proofs.piece.load.Tie as tie
 
-load-step-requires : tie.Need-load-step-requires
-load-step-requires c κs = search needs
+load-word-requires : tie.Need-load-word-requires
+load-word-requires c κs = search needs
 
 single-requires : tie.Need-single-requires
-single-requires c κs =
-    let s = c .before .before in
-    rw (c .load-step .ensures) (small-load (frameBy (s .args .variables .now) (s .args .hints .now)) (s .args .r) (s .args .o) (s .pre))
+single-requires c κs = search needs
 
 returns : tie.Need-returns
-returns c = c .single .ensures ∙ c .before .load-step .ensures
+returns c = c .single .ensures ∙ c .before .load-word .ensures
 
 pub load-spec : {M : Type 1} → statement M
-load-spec = tie.close (tie.spec load-step-requires single-requires returns)
+load-spec = tie.close (tie.spec load-word-requires single-requires returns)

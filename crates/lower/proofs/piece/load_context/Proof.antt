@@ -1,5 +1,4 @@
 -- `load_context` checks the size, and then the offset.
-use mathlib.Core.Path.{_∙_}
 use native.Mathlib.Omega.{arith}
 use borrow.Author.Tests.{lt-ltb}
 use lib.Signed.{mag}
@@ -7,7 +6,7 @@ use mir.Syntax.{w16, w32}
 use mir.ValLaws.{toZ-ofZ}
 use Rattle.lower.specs.Operand.{fits16}
 use Rattle.lower.specs.Instruction.{sized, mem}
-use Rattle.lower.specs.Step.{pieceOf, outcomeOf, opsOf, all, one}
+use Rattle.lower.specs.Step.{opsIn, words, wordIs}
 use Rattle.lower.proofs.Range.{below, above, inside, cast-fits, cast-is}
 use borrow.Author.Needs.{needs}
 use Rattle.lower.proofs.piece.load_context.Statement.{statement}
@@ -20,39 +19,39 @@ enum-known-code : tie.Need-enum-known-code
 enum-known-code c = search needs
 
 returns : tie.Need-returns
-unfolding pieceOf outcomeOf opsOf all sized fits16
+unfolding wordIs sized fits16
 returns c =
     let s = c .before .before .before .before .before in
     rw (← c .before .before .before .before .ldx-mem .ensures, c .before .before .code .given .1, below w32 (s .args .offset) 32767 (s .fits .offset) (c .if1 .taken), toZ-ofZ w32 (s .args .offset) (s .fits .offset))
 
 returns-2 : tie.Need-returns-2
-unfolding pieceOf outcomeOf opsOf all sized fits16
+unfolding wordIs sized fits16
 returns-2 c =
     let s = c .before .before .before .before .before .before in
     rw (← c .before .before .before .before .before .ldx-mem .ensures, c .before .before .before .code .given .1, above w32 (s .args .offset) 32767 (s .fits .offset) (c .if2 .taken), toZ-ofZ w32 (s .args .offset) (s .fits .offset))
 
-cast-plain : tie.Need-cast-plain
-cast-plain c =
+cast-word : tie.Need-cast-word
+cast-word c =
     let s = c .before .before .before .before .before .before in
     let h = inside w32 (s .args .offset) 32767 (s .fits .offset) (c .before .if1 .left) (c .if2 .left) in
     cast-fits w32 w16 (s .args .offset) (s .fits .offset) (record { sfits = omega arith })
 
-plain-requires : tie.Need-plain-requires
-plain-requires c κs = search needs
+word-requires : tie.Need-word-requires
+word-requires c κs = search needs
 
 enum-told : tie.Need-enum-told
 enum-told c = search needs
 
 returns-3 : tie.Need-returns-3
-unfolding sized fits16 mem one
+unfolding wordIs words opsIn sized fits16 mem
 returns-3 c =
     let s = c .before .before .before .before .before .before .before in
     let h = inside w32 (s .args .offset) 32767 (s .fits .offset) (c .before .before .if1 .left) (c .before .if2 .left) in
-    c .plain .ensures ∙ rw (← c .before .before .before .before .before .before .ldx-mem .ensures, c .before .before .before .before .code .given .1, cast-is w32 w16 (s .args .offset) (s .fits .offset) (record { sfits = omega arith }), lt-ltb (mag (s .args .offset)) 32768 (omega arith))
+    rw (c .word .ensures, ← c .before .before .before .before .before .before .ldx-mem .ensures, c .before .before .before .before .code .given .1, cast-is w32 w16 (s .args .offset) (s .fits .offset) (record { sfits = omega arith }), lt-ltb (mag (s .args .offset)) 32768 (omega arith))
 
 returns-4 : tie.Need-returns-4
-unfolding pieceOf outcomeOf opsOf all sized
+unfolding wordIs sized
 returns-4 c = rw (← c .before .before .ldx-mem .ensures, c .enum-told .given .1)
 
 pub load-context-spec : {M : Type 1} → statement M
-load-context-spec = tie.close (tie.spec ldx-mem-requires enum-known-code returns returns-2 cast-plain plain-requires enum-told returns-3 returns-4)
+load-context-spec = tie.close (tie.spec ldx-mem-requires enum-known-code returns returns-2 cast-word word-requires enum-told returns-3 returns-4)

@@ -1,118 +1,30 @@
--- `put_instruction` writes the eight pieces of an instruction.
+-- `put_instruction` writes an instruction by its opcode's fields.
 use mathlib.Core.Path.{ap, _∙_}
-use native.Mathlib.Omega.{arith}
 use borrow.Author.Needs.{needs}
-use mir.Syntax.{w32}
 use Rattle.wire.specs.Le.{store}
 use Rattle.ir.specs.Operands.{listOf}
 use Rattle.opcode.specs.declared.Fields.{Fields}
-use Rattle.recordwriter.specs.Bytes.{instructionBytes}
-use Rattle.operand.proofs.Pieces.{byte, number, signed, _▸_}
-use Rattle.operand.proofs.OperandBytes.{operands}
-use Rattle.recordwriter.proofs.Pieces.{instruction-pieces}
+use Rattle.payloadwriter.specs.Payloads.{instructionBytes}
+use Rattle.recordwriter.specs.Bytes.{payloadBytes}
 use Rattle.recordwriter.proofs.put.put_instruction.Statement.{statement}
 use Rattle.recordwriter.proofs.put.put_instruction.Tie as tie
 
 fields-requires : tie.Need-fields-requires
 fields-requires c κs = search needs
 
-count-requires : tie.Need-count-requires
-count-requires c κs = search needs
-
-put-u32-requires : tie.Need-put-u32-requires
-put-u32-requires c κs = search needs
-
-add-put-u8 : tie.Need-add-put-u8
-add-put-u8 c = search needs
-
-put-u8-requires : tie.Need-put-u8-requires
-put-u8-requires c κs = search needs
-
-add-put-u8-2 : tie.Need-add-put-u8-2
-add-put-u8-2 c = search needs
-
-put-u8-requires-2 : tie.Need-put-u8-requires-2
-put-u8-requires-2 c κs = search needs
-
-add-put-u8-3 : tie.Need-add-put-u8-3
-add-put-u8-3 c = search needs
-
-put-u8-requires-3 : tie.Need-put-u8-requires-3
-put-u8-requires-3 c κs = search needs
-
-add-put-u8-4 : tie.Need-add-put-u8-4
-add-put-u8-4 c = search needs
-
-put-u8-requires-4 : tie.Need-put-u8-requires-4
-put-u8-requires-4 c κs = search needs
-
-add-put-i32 : tie.Need-add-put-i32
-add-put-i32 c = search needs
-
-put-i32-requires : tie.Need-put-i32-requires
-put-i32-requires c κs = search needs
-
-add-put-u32 : tie.Need-add-put-u32
-add-put-u32 c = search needs
-
-put-u32-requires-2 : tie.Need-put-u32-requires-2
-put-u32-requires-2 c κs = search needs
-
-add-put-operands : tie.Need-add-put-operands
-add-put-operands c =
-    let start = c .before .before .before .before .before .before .before .before .before .before .before .before .before .before .before .before .before .before .before .before .before .before .before .before .before .before .before .before .before .before .before .before .before in
-    omega (arith, start .pre .1, start .good .0)
-
-put-operands-requires : tie.Need-put-operands-requires
-put-operands-requires c κs = search needs
+put-instruction-requires : tie.Need-put-instruction-requires
+put-instruction-requires c κs = search needs
 
 same-length : tie.Need-same-length
 same-length c = search needs
 
 returns : tie.Need-returns
+unfolding payloadBytes
 returns c =
-    let numbered = c .before .before .before .before .before .before in
-    let placed = numbered .before .before .before .before in
-    let zeroed = placed .before .before .before .before .before in
-    let counted = zeroed .before .before .before .before in
-    let sized = counted .before .before .before .before in
-    let coded = sized .before .before .before .before in
-    let began = coded .before .before .before .before in
-    let n = began .before .before .count in
-    let f = began .before .before .before .fields in
-    let start = began .before .before .before .before .before in
-    let a = start .args in
-    let os = listOf (a .i .operands) in
-    (number w32 (a .i .result) (began .put-u32 .ensures)
-    ▸ byte (f .result .code) (omega (arith, f .ok)) (coded .put-u8 .ensures)
-    ▸ byte (f .result .small) (omega (arith, f .ok)) (sized .put-u82 .ensures)
-    ▸ byte (n .result) (omega (arith, n .ok)) (counted .put-u83 .ensures)
-    ▸ byte 0 (omega arith) (zeroed .put-u84 .ensures)
-    ▸ signed w32 (f .result .offset) (record { sfits = omega (arith, f .ok) }) (placed .put-i32 .ensures)
-    ▸ number w32 (f .result .number) (numbered .put-u322 .ensures)
-    ▸ operands os (c .before .before .put-operands .ensures)) .left (omega (arith, start .pre .1))
-    ∙ ap (store (a .b .now) (a .at)) (instruction-pieces (a .i .result) (f .result) (n .result) os (n .ensures) ∙ ap (λ (g : Fields). instructionBytes (a .i .result) g os) (f .ensures))
+    let f = c .before .before .before in
+    let a = f .before .before .before .args in
+    c .before .before .put-instruction .ensures
+    ∙ ap (λ (g : Fields). store (a .b .now) 4 (instructionBytes (a .i .result) g (listOf (a .i .operands)))) (f .fields .ensures)
 
 pub put-instruction-spec : {M : Type 1} → statement M
-put-instruction-spec =
-    tie.close
-    (tie.spec
-    fields-requires
-    count-requires
-    put-u32-requires
-    add-put-u8
-    put-u8-requires
-    add-put-u8-2
-    put-u8-requires-2
-    add-put-u8-3
-    put-u8-requires-3
-    add-put-u8-4
-    put-u8-requires-4
-    add-put-i32
-    put-i32-requires
-    add-put-u32
-    put-u32-requires-2
-    add-put-operands
-    put-operands-requires
-    same-length
-    returns)
+put-instruction-spec = tie.close (tie.spec fields-requires put-instruction-requires same-length returns)

@@ -4,7 +4,7 @@ use borrow.Author.Needs.{needs}
 use lib.ListN.{length}
 use Rattle.recordwriter.specs.Bytes.{payloadBytes}
 use Rattle.recordwriter.specs.Written.{valid}
-use Rattle.recordwriter.proofs.Length.{head-length, part-length, instruction-length}
+use Rattle.recordwriter.proofs.Length.{head-length, part-length}
 use Rattle.recordwriter.proofs.Valid.{name-told}
 use Rattle.recordwriter.proofs.put.put_payload.Statement.{statement}
 use Rattle.recordwriter.proofs.put.put_payload.Tie as tie
@@ -37,18 +37,15 @@ enum-known-value-4 : tie.Need-enum-known-value-4
 enum-known-value-4 c = search needs
 
 put-instruction-requires : tie.Need-put-instruction-requires
-unfolding valid payloadBytes
+unfolding valid
 put-instruction-requires c κs =
-    let start = c .before .before .before .before .before .before in
-    let e = c .before .before .value4 .given .1 in
-    (rw e at (start .pre .0), rw instruction-length at (rw e at (start .pre .1)))
+    rw (c .before .before .value4 .given .1) at (c .before .before .before .before .before .before .pre .0)
 
 enum-known-value-5 : tie.Need-enum-known-value-5
 enum-known-value-5 c = search needs
 
 put-terminator-requires : tie.Need-put-terminator-requires
-unfolding payloadBytes
-put-terminator-requires c κs = rw (c .before .before .value5 .given .1) at (c .before .before .before .before .before .before .pre .1)
+put-terminator-requires c κs = search needs
 
 same-length : tie.Need-same-length
 same-length c = search needs

@@ -9,7 +9,8 @@ use Rattle.recordwriter.specs.Bytes.{payloadBytes}
 use Rattle.recordwriter.specs.Size.{sizeOf}
 use Rattle.recordwriter.specs.Written.{valid}
 use Rattle.recordwriter.specs.declared.size.Size.the-variants.{Bytes}
-use Rattle.recordwriter.proofs.Length.{head-length, instruction-length, part-length}
+use Rattle.payloadwriter.proofs.Lengths.{instruction-length}
+use Rattle.recordwriter.proofs.Length.{head-length, part-length}
 use Rattle.recordwriter.proofs.Valid.{name-told}
 use Rattle.recordwriter.proofs.size.size_of.Statement.{statement}
 use Rattle.recordwriter.proofs.size.size_of.Tie as tie

@@ -16,7 +16,7 @@ get-u32-requires c κs = search needs
 returns : tie.Need-returns
 unfolding ofRecordIn idAfterIn atEndIn
 returns c =
-    let s = c .before .before .before .before in
+    let s = c .before .before .before .before .before .before in
     let three = eq-eqb (s .args .kind) 3 (c .before .if1 .taken) in
     record {
       takes = rw three (nothing (s .pre .0));
@@ -32,7 +32,7 @@ with-instruction-requires c κs = search needs
 returns-2 : tie.Need-returns-2
 unfolding ofRecordIn idAfterIn atEndIn
 returns-2 c =
-    let s = c .before .before .before .before .before .before .before in
+    let s = c .before .before .before .before .before .before .before .before .before in
     let three = ne-eqb (s .args .kind) 3 (c .before .before .before .before .if1 .left) in
     let four = eq-eqb (s .args .kind) 4 (c .before .before .before .if2 .taken) in
     record {
@@ -46,44 +46,37 @@ returns-2 c =
 with-terminator-requires : tie.Need-with-terminator-requires
 with-terminator-requires c κs = search needs
 
-mul-ids : tie.Need-mul-ids
-mul-ids c = search needs
+keep-requires : tie.Need-keep-requires
+keep-requires c κs = search needs
 
-element-write-ids : tie.Need-element-write-ids
-unfolding atEndIn
-element-write-ids c =
-    let s = c .before .before .before .before .before .before .before in
-    let room = rw (ne-eqb (s .args .kind) 3 (c .before .before .before .before .if1 .left), ne-eqb (s .args .kind) 4 (c .before .before .before .if2 .left)) at (s .pre .1 .0) in
-    omega arith
+cast-keep : tie.Need-cast-keep
+cast-keep c = search needs
 
-cast-endings : tie.Need-cast-endings
-cast-endings c = search needs
+keep-requires-2 : tie.Need-keep-requires-2
+keep-requires-2 c κs = search needs
 
-mul-endings : tie.Need-mul-endings
-mul-endings c = search needs
+add-t26 : tie.Need-add-t26
+add-t26 c = search needs
 
-element-write-endings : tie.Need-element-write-endings
-unfolding atEndIn
-element-write-endings c =
-    let s = c .before .before .before .before .before .before .before in
-    let room = rw (ne-eqb (s .args .kind) 3 (c .before .before .before .before .if1 .left), ne-eqb (s .args .kind) 4 (c .before .before .before .if2 .left)) at (s .pre .1 .0) in
-    omega arith
+same-length : tie.Need-same-length
+same-length c = search needs
 
-add-t20 : tie.Need-add-t20
-add-t20 c = search needs
+same-length-2 : tie.Need-same-length-2
+same-length-2 c = search needs
 
 returns-3 : tie.Need-returns-3
 unfolding ofRecordIn idAfterIn atEndIn
 returns-3 c =
-    let s = c .before .before .before .before .before .before .before in
-    let three = ne-eqb (s .args .kind) 3 (c .before .before .before .before .if1 .left) in
-    let four = ne-eqb (s .args .kind) 4 (c .before .before .before .if2 .left) in
+    let t = c .before .before .before .before .before .before .before .before in
+    let s = t .before .before .before .before .before .before .before .before .before in
+    let three = ne-eqb (s .args .kind) 3 (t .before .before .before .before .if1 .left) in
+    let four = ne-eqb (s .args .kind) 4 (t .before .before .before .if2 .left) in
     record {
-      takes = rw (three, four) (c .with-terminator .ensures);
+      takes = rw (three, four) (t .with-terminator .ensures);
       id = rw three;
       block = rw (three, four) (omega arith);
-      ids = rw (three, four);
-      endings = rw (three, four);
+      ids = rw (three, four) (c .before .before .before .before .before .before .keep .ensures);
+      endings = rw (three, four) (c .before .before .keep2 .ensures);
     }
 
 pub on-record-spec : {M : Type 1} → statement M
@@ -96,10 +89,10 @@ on-record-spec =
     with-instruction-requires
     returns-2
     with-terminator-requires
-    mul-ids
-    element-write-ids
-    cast-endings
-    mul-endings
-    element-write-endings
-    add-t20
+    keep-requires
+    cast-keep
+    keep-requires-2
+    add-t26
+    same-length
+    same-length-2
     returns-3)

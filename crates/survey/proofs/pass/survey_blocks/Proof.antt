@@ -6,7 +6,7 @@ use lib.ListN.{length}
 use Rattle.unitfile.specs.Unit.{firstBlock}
 use Rattle.unitfile.proofs.Run.{later}
 use Rattle.unitfile.proofs.Units.{unit-of}
-use Rattle.survey.proofs.Left.{Left, start, seen, has-room, on-record, end-answer, end-variables, end-ids, end-endings}
+use Rattle.survey.proofs.Left.{Left, start, seen, has-room, on-record, end-answer, end-variables, end-ids, end-endings, ids-length, endings-length}
 use borrow.Author.Needs.{needs}
 use Rattle.survey.proofs.pass.survey_blocks.Statement.{statement}
 use Rattle.survey.proofs.pass.survey_blocks.Tie as tie
@@ -19,7 +19,7 @@ abbrev μ-loop : tie.MeasureT-loop
 
 loop-holds : tie.Need-loop-holds Inv-loop μ-loop
 unfolding firstBlock
-loop-holds c = let s = c .before .before in start (s .args .unit .now) (s .args .found) _ _ _ (s .pre .0) (s .pre .1)
+loop-holds c = let s = c .before .before .before .before in start (s .args .unit .now) (s .args .found) _ _ _ (s .pre .0) (s .pre .1)
 
 peek-requires : tie.Need-peek-requires Inv-loop μ-loop
 peek-requires c κs = search needs
@@ -27,10 +27,16 @@ peek-requires c κs = search needs
 answer-requires : tie.Need-answer-requires Inv-loop μ-loop
 answer-requires c κs = search needs
 
+same-length : tie.Need-same-length Inv-loop μ-loop
+same-length c = let p = c .before .before .before .before in ids-length (p .before .loop .inv) _ (p .peek .ensures) (c .before .before .if1 .taken)
+
+same-length-2 : tie.Need-same-length-2 Inv-loop μ-loop
+same-length-2 c = let p = c .before .before .before .before in endings-length (p .before .loop .inv) _ (p .peek .ensures) (c .before .before .if1 .taken)
+
 returns : tie.Need-returns Inv-loop μ-loop
 returns c =
     let p = c .before .before .before .before in
-    let s = p .before .before .before .before in
+    let s = p .before .before .before .before .before .before in
     let k = p .before .loop .inv in
     let q = p .peek .ensures in
     let z = c .before .before .if1 .taken in
@@ -40,7 +46,7 @@ on-record-requires : tie.Need-on-record-requires Inv-loop μ-loop
 on-record-requires c κs =
     let p = c .before .before .before .before .before .before in
     let l = p .before .loop in
-    let s = p .before .before .before .before in
+    let s = p .before .before .before .before .before .before in
     let e = seen (l .inv) _ (p .peek .ensures) (c .before .before .before .before .if1 .left) in
     let u = unit-of _ _ (s .pre .0) in
     let o = later _ _ (l .c) _ _ (e .step) in
@@ -48,17 +54,17 @@ on-record-requires c κs =
 
 loop-less : tie.Need-loop-less Inv-loop μ-loop
 loop-less c =
-    let p = c .before .before .before .before .before .before .before .before in
+    let p = c .before .before .before .before .before .before .before .before .before .before .before .before in
     let l = p .before .loop in
-    let e = seen (l .inv) _ (p .peek .ensures) (c .before .before .before .before .before .before .if1 .left) in
+    let e = seen (l .inv) _ (p .peek .ensures) (c .before .before .before .before .before .before .before .before .before .before .if1 .left) in
     let o = later _ _ (l .c) _ _ (e .step) in
     omega arith
 
 loop-again : tie.Need-loop-again Inv-loop μ-loop
 loop-again c =
-    let p = c .before .before .before .before .before .before .before .before in
+    let p = c .before .before .before .before .before .before .before .before .before .before .before .before in
     let l = p .before .loop in
-    on-record (l .inv) _ (seen (l .inv) _ (p .peek .ensures) (c .before .before .before .before .before .before .if1 .left)) (c .before .on-record .ensures)
+    on-record (l .inv) _ (seen (l .inv) _ (p .peek .ensures) (c .before .before .before .before .before .before .before .before .before .before .if1 .left)) (c .before .before .before .before .before .on-record .ensures)
 
 pub survey-blocks-spec : {M : Type 1} → statement M
 survey-blocks-spec =
@@ -69,6 +75,8 @@ survey-blocks-spec =
     loop-holds
     peek-requires
     answer-requires
+    same-length
+    same-length-2
     returns
     on-record-requires
     loop-less

@@ -16,11 +16,14 @@ mark-condition-requires c κs = search needs
 count-of-requires : tie.Need-count-of-requires
 count-of-requires c κs = search needs
 
-element-write-counts : tie.Need-element-write-counts
-element-write-counts c = search needs
+slice-write-counts : tie.Need-slice-write-counts
+slice-write-counts c = search needs
 
 first-target-requires : tie.Need-first-target-requires
 first-target-requires c κs = search needs
+
+second-target-requires : tie.Need-second-target-requires
+second-target-requires c κs = search needs
 
 mul-targets : tie.Need-mul-targets
 mul-targets c = search needs
@@ -28,11 +31,8 @@ mul-targets c = search needs
 mul-targets-2 : tie.Need-mul-targets-2
 mul-targets-2 c = search needs
 
-element-write-targets : tie.Need-element-write-targets
-element-write-targets c = search needs
-
-second-target-requires : tie.Need-second-target-requires
-second-target-requires c κs = search needs
+slice-write-targets : tie.Need-slice-write-targets
+slice-write-targets c = search needs
 
 mul-targets-3 : tie.Need-mul-targets-3
 mul-targets-3 c = search needs
@@ -43,17 +43,47 @@ add-targets c = search needs
 mul-targets-4 : tie.Need-mul-targets-4
 mul-targets-4 c = search needs
 
-element-write-targets-2 : tie.Need-element-write-targets-2
-element-write-targets-2 c = search needs
+slice-write-targets-2 : tie.Need-slice-write-targets-2
+slice-write-targets-2 c = search needs
+
+mul-numbers : tie.Need-mul-numbers
+mul-numbers c = search needs
+
+mul-numbers-2 : tie.Need-mul-numbers-2
+mul-numbers-2 c = search needs
+
+slice-write-numbers : tie.Need-slice-write-numbers
+slice-write-numbers c = search needs
+
+mul-numbers-3 : tie.Need-mul-numbers-3
+mul-numbers-3 c = search needs
+
+add-numbers : tie.Need-add-numbers
+add-numbers c = search needs
+
+mul-numbers-4 : tie.Need-mul-numbers-4
+mul-numbers-4 c = search needs
+
+slice-write-numbers-2 : tie.Need-slice-write-numbers-2
+slice-write-numbers-2 c = search needs
+
+same-length : tie.Need-same-length
+same-length c = search needs
+
+same-length-2 : tie.Need-same-length-2
+same-length-2 c = search needs
+
+same-length-3 : tie.Need-same-length-3
+same-length-3 c = search needs
 
 returns : tie.Need-returns
 returns c =
     let t = c .before .before .before .before .before .terminator-in .ensures in
-    rw (← t) (record {
-      marks = c .before .before .before .mark-condition .ensures;
-      counts = rw (c .before .before .count-of .ensures);
-      targets = rw (c .before .first-target .ensures, c .second-target .ensures, add-one);
-    })
+    let marked = c .before .before .before .mark-condition .ensures in
+    rw (← t) (
+      record { marks = marked; counts = rw (c .before .before .count-of .ensures); targets = rw (c .before .first-target .ensures, c .second-target .ensures, add-one) },
+      record { marks = marked; counts = rw (c .before .before .count-of .ensures); targets = rw (c .before .first-target .ensures, c .second-target .ensures, add-one) },
+    )
 
 pub note-spec : {M : Type 1} → statement M
 note-spec =
@@ -63,14 +93,24 @@ note-spec =
     terminator-in-requires
     mark-condition-requires
     count-of-requires
-    element-write-counts
+    slice-write-counts
     first-target-requires
+    second-target-requires
     mul-targets
     mul-targets-2
-    element-write-targets
-    second-target-requires
+    slice-write-targets
     mul-targets-3
     add-targets
     mul-targets-4
-    element-write-targets-2
+    slice-write-targets-2
+    mul-numbers
+    mul-numbers-2
+    slice-write-numbers
+    mul-numbers-3
+    add-numbers
+    mul-numbers-4
+    slice-write-numbers-2
+    same-length
+    same-length-2
+    same-length-3
     returns)

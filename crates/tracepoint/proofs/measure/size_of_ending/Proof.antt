@@ -1,45 +1,50 @@
--- `size_of_ending` takes a terminator's slots from its value.
-use mathlib.Core.Path.{refl}
-use native.Mathlib.Omega.{arith}
-use Rattle.lower.specs.Op.{_▸_, insn, slotsOf}
-use Rattle.lower.specs.Held.{endingOps}
-use Rattle.layout.specs.Layout.{at}
-use Rattle.layout.specs.Inner.{mapsOf}
-use Rattle.passes.specs.Tables.{sizeOf}
-use Rattle.passes.proofs.Measuring.{sized, sized-refused}
+-- `size_of_ending` takes a terminator's slots from its form.
+use mathlib.Core.Path.{sym, _∙_}
 use borrow.Author.Needs.{needs}
+use Rattle.passes.proofs.Sizing.{return-sized, jump-sized, branch-sized}
 use Rattle.tracepoint.proofs.measure.size_of_ending.Statement.{statement}
 use Rattle.tracepoint.proofs.measure.size_of_ending.Tie as tie
 
-enum-told : tie.Need-enum-told
-enum-told c = search needs
+get-u8-requires : tie.Need-get-u8-requires
+get-u8-requires c κs = search needs
 
-enum-told-2 : tie.Need-enum-told-2
-enum-told-2 c = search needs
+operand-in-requires : tie.Need-operand-in-requires
+operand-in-requires c κs = search needs
 
-enum-told-3 : tie.Need-enum-told-3
-enum-told-3 c = search needs
-
-enum-known-t : tie.Need-enum-known-t
-enum-known-t c = search needs
+size-of-loading-requires : tie.Need-size-of-loading-requires
+size-of-loading-requires c κs = search needs
 
 returns : tie.Need-returns
-unfolding endingOps _▸_ insn at sizeOf slotsOf mapsOf
-returns c = rw (c .enum-told .given .1) (sized (omega arith) (omega arith) refl)
+returns c =
+    let s = c .before .before .before .before .before in
+    return-sized (s .args .place) (s .args .payload .now) (sym (c .before .before .before .get-u8 .ensures) ∙ c .before .before .if1 .taken) (rw (c .before .operand-in .ensures) at (c .size-of-loading .ensures))
 
 returns-2 : tie.Need-returns-2
-unfolding endingOps at sizeOf slotsOf mapsOf
-returns-2 c = rw (c .enum-told2 .given .1) (sized (omega arith) (omega arith) refl)
+returns-2 c =
+    let s = c .before .before .before .before in
+    jump-sized (s .args .place) (s .args .payload .now) (sym (c .before .before .get-u8 .ensures) ∙ c .if2 .taken)
+
+operand-in-requires-2 : tie.Need-operand-in-requires-2
+operand-in-requires-2 c κs = search needs
+
+size-of-loading-requires-2 : tie.Need-size-of-loading-requires-2
+size-of-loading-requires-2 c κs = search needs
 
 returns-3 : tie.Need-returns-3
-unfolding endingOps at sizeOf slotsOf mapsOf
-returns-3 c = rw (c .enum-told3 .given .1) (sized (omega arith) (omega arith) refl)
-
-returns-4 : tie.Need-returns-4
-unfolding endingOps at sizeOf
-returns-4 c = rw (c .before .t .given .1) (sized-refused refl)
+returns-3 c =
+    let s = c .before .before .before .before .before .before in
+    let g = c .before .before .before .before .get-u8 .ensures in
+    branch-sized (s .args .place) (s .args .payload .now) (λ h. c .before .before .before .if1 .left (g ∙ h)) (λ h. c .before .before .if2 .left (g ∙ h)) (rw (c .before .operand-in2 .ensures) at (c .size-of-loading2 .ensures))
 
 pub size-of-ending-spec : {M : Type 1} → statement M
 size-of-ending-spec =
     tie.close
-    (tie.spec enum-told enum-told-2 enum-told-3 enum-known-t returns returns-2 returns-3 returns-4)
+    (tie.spec
+    get-u8-requires
+    operand-in-requires
+    size-of-loading-requires
+    returns
+    returns-2
+    operand-in-requires-2
+    size-of-loading-requires-2
+    returns-3)

@@ -1,4 +1,5 @@
 -- `put_instruction` lets the lowering put the code, and puts the relocation.
+use mathlib.Core.List.{[]}
 use borrow.Author.Needs.{needs}
 use Rattle.passes.proofs.Payload.{tidy-payload, asked-is}
 use Rattle.passes.proofs.Put.{told-room, puts-told}
@@ -19,7 +20,7 @@ lower-instruction-requires c κs = search needs
 
 put-relocation-requires : tie.Need-put-relocation-requires
 put-relocation-requires c κs =
-    told-room 0 0 _ 0 (tidy-payload _ _ _ _) (c .before .before .before .lower-instruction .ensures .0) (rw (← asked-is _ _ _ (c .before .before .before .before .before .before .before .before .before .before .before .before .args .j) _ (c .before .before .before .before .before .before .before .condition-of .ensures)) at (c .before .before .before .before .before .before .before .before .before .before .before .before .pre .1))
+    told-room [] _ 0 (tidy-payload _ _ _ _) (c .before .before .before .lower-instruction .ensures .0) (rw (← asked-is _ _ _ (c .before .before .before .before .before .before .before .before .before .before .before .before .args .j) _ (c .before .before .before .before .before .before .before .condition-of .ensures)) at (c .before .before .before .before .before .before .before .before .before .before .before .before .pre .1))
 
 scratch-after-requires : tie.Need-scratch-after-requires
 scratch-after-requires c κs = search needs
@@ -32,7 +33,7 @@ same-length-2 c = search needs
 
 returns : tie.Need-returns
 returns c =
-    (λ a b. rw (← asked-is _ _ _ (c .before .before .before .before .before .before .before .before .before .before .before .before .before .before .before .before .args .j) _ (c .before .before .before .before .before .before .before .before .before .before .before .condition-of .ensures)) (puts-told a b _ 0 (tidy-payload _ _ _ _) (c .before .before .before .before .before .before .before .lower-instruction .ensures .0) (rw (← asked-is _ _ _ (c .before .before .before .before .before .before .before .before .before .before .before .before .before .before .before .before .args .j) _ (c .before .before .before .before .before .before .before .before .before .before .before .condition-of .ensures)) at (c .before .before .before .before .before .before .before .before .before .before .before .before .before .before .before .before .pre .1)) (c .before .before .before .before .before .before .before .lower-instruction .ensures .1) (c .before .before .before .put-relocation .ensures)), c .scratch-after .ensures)
+    (λ xs. rw (← asked-is _ _ _ (c .before .before .before .before .before .before .before .before .before .before .before .before .before .before .before .before .args .j) _ (c .before .before .before .before .before .before .before .before .before .before .before .condition-of .ensures)) (puts-told xs _ 0 (tidy-payload _ _ _ _) (c .before .before .before .before .before .before .before .lower-instruction .ensures .0) (rw (← asked-is _ _ _ (c .before .before .before .before .before .before .before .before .before .before .before .before .before .before .before .before .args .j) _ (c .before .before .before .before .before .before .before .before .before .before .before .condition-of .ensures)) at (c .before .before .before .before .before .before .before .before .before .before .before .before .before .before .before .before .pre .1)) (c .before .before .before .before .before .before .before .lower-instruction .ensures .1) (c .before .before .before .put-relocation .ensures)), c .scratch-after .ensures)
 
 pub put-instruction-spec : {M : Type 1} → statement M
 put-instruction-spec =

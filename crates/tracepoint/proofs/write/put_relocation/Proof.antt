@@ -9,14 +9,17 @@ use Rattle.passes.specs.Put.{relocationsBy}
 use Rattle.tracepoint.proofs.write.put_relocation.Statement.{statement}
 use Rattle.tracepoint.proofs.write.put_relocation.Tie as tie
 
+add-t11 : tie.Need-add-t11
+add-t11 c = search needs
+
 enum-told : tie.Need-enum-told
 enum-told c = search needs
 
-add-t10 : tie.Need-add-t10
-add-t10 c = search needs
-
 enum-known-map : tie.Need-enum-known-map
 enum-known-map c = search needs
+
+add-after : tie.Need-add-after
+add-after c = search needs
 
 byte-offset-requires : tie.Need-byte-offset-requires
 byte-offset-requires c κs = search needs
@@ -29,7 +32,7 @@ mul-relocs c = search needs
 
 slice-write-relocs : tie.Need-slice-write-relocs
 unfolding relocsBy
-slice-write-relocs c = let room = rw (c .before .before .map .given .1) at (c .before .before .before .before .before .before .pre .1) in omega arith
+slice-write-relocs c = let room = rw (c .before .before .map .given .1) at (c .before .before .before .before .before .before .before .pre .1) in omega arith
 
 add-relocs : tie.Need-add-relocs
 add-relocs c = search needs
@@ -39,32 +42,27 @@ mul-relocs-2 c = search needs
 
 slice-write-relocs-2 : tie.Need-slice-write-relocs-2
 unfolding relocsBy
-slice-write-relocs-2 c = let room = rw (c .before .before .map .given .1) at (c .before .before .before .before .before .before .pre .1) in simp length-set (omega arith)
-
-add-t13 : tie.Need-add-t13
-add-t13 c = search needs
-
-add-t16 : tie.Need-add-t16
-add-t16 c = search needs
+slice-write-relocs-2 c = let room = rw (c .before .before .map .given .1) at (c .before .before .before .before .before .before .before .pre .1) in simp length-set (omega arith)
 
 returns : tie.Need-returns
 unfolding relocsBy relocationsBy
-returns c = rw (c .before .enum-told .given .1) (record { slot = refl; reloc = omega arith; relocs = refl })
+returns c = rw (c .enum-told .given .1) (record { slot = refl; reloc = omega arith; relocs = refl })
 
 same-length : tie.Need-same-length
 same-length c = search needs
 
 returns-2 : tie.Need-returns-2
 unfolding relocsBy relocationsBy
-returns-2 c = rw (c .before .before .before .map .given .1) (record { slot = refl; reloc = refl; relocs = rw (c .before .byte-offset .ensures, add-one) })
+returns-2 c = rw (c .before .before .map .given .1) (record { slot = refl; reloc = refl; relocs = rw (c .byte-offset .ensures, add-one) })
 
 pub put-relocation-spec : {M : Type 1} → statement M
 put-relocation-spec =
     tie.close
     (tie.spec
+    add-t11
     enum-told
-    add-t10
     enum-known-map
+    add-after
     byte-offset-requires
     cast-relocs
     mul-relocs
@@ -72,8 +70,6 @@ put-relocation-spec =
     add-relocs
     mul-relocs-2
     slice-write-relocs-2
-    add-t13
-    add-t16
     returns
     same-length
     returns-2)

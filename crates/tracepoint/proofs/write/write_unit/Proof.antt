@@ -1,51 +1,99 @@
--- `write_unit` goes over the records; what is left of them always leads to the same code and relocations.
+-- `write_unit` goes over the blocks; what is left of them always leads to the same code and relocations.
 use mathlib.Core.Path.{_≡_, refl, ap, _∙_}
-use Prim.Native.Nat.{_*_, _-_}
+use Prim.Native.Nat.{ℕ, _+_, _-_}
 use native.Mathlib.Omega.{arith}
 use borrow.Author.Needs.{needs}
-use lib.ListN.{length}
-use lib.Seq.{sets, length-sets}
+use lib.ListN.{length, getD}
+use lib.Seq.{length-sets}
 use Rattle.insn.specs.Form.{opcodeOf}
-use Rattle.unitfile.specs.Unit.{parse, firstBlock}
+use Rattle.record.specs.Frame.{nextAt}
+use Rattle.unitfile.specs.Unit.{parse}
 use Rattle.unitfile.proofs.Units.{unit-of}
 use Rattle.survey.specs.Surveyed.{blocksOf}
 use Rattle.layout.specs.Layout.{blocks, ops}
-use Rattle.layout.specs.Code.{insns, codeBytes, relocations}
+use Rattle.layout.specs.Jumps.{starts}
 use Rattle.layout.specs.Inner.{keepBy}
 use Rattle.jumps.specs.Landed.{marked}
 use Rattle.passes.specs.Inner.{contextOf}
-use Rattle.passes.proofs.Payload.{payload-whole}
-use Rattle.passes.proofs.Steps.{meets, passes}
-use Rattle.passes.proofs.Writing.{Writing, startsBy, first-room, start, block-room, room-both, written, on-record, code-done, relocs-done, code-whole, relocs-whole}
+use Rattle.passes.proofs.Writing.{Left, start, first-room, ends-room, next, before, inside, room-block, written, passed, done, unit-done}
 use Rattle.tracepoint.proofs.write.write_unit.Statement.{statement}
 use Rattle.tracepoint.proofs.write.write_unit.Tie as tie
 
 abbrev Inv-loop : tie.InvT-loop
-Inv-loop unit variables hints marks emitted edges numbers code₀ relocs₀ c₀ st₀ front₀ code relocs c st front =
-    Writing unit (contextOf variables hints marks) (marked emitted) (blocksOf (parse unit))
-    (sets code₀ (8 * 1) (codeBytes (insns (startsBy (contextOf variables hints marks) (marked emitted) (blocksOf (parse unit))) 1 (ops (blocks (contextOf variables hints marks) 0 (keepBy (marked emitted) 0 (blocksOf (parse unit))))))))
-    (sets relocs₀ 0 (relocations 1 (ops (blocks (contextOf variables hints marks) 0 (keepBy (marked emitted) 0 (blocksOf (parse unit)))))))
-    code relocs c st (front .slot .0) (front .relocs)
+Inv-loop unit variables hints marks emitted endings edges numbers code₀ relocs₀ n passed₀ at₀ k₀ code relocs passed at k =
+    Left unit endings (contextOf variables hints marks) (marked emitted) (starts (contextOf variables hints marks) (keepBy (marked emitted) 0 (blocksOf (parse unit)))) edges numbers (ops (blocks (contextOf variables hints marks) 0 (keepBy (marked emitted) 0 (blocksOf (parse unit))))) code₀ relocs₀
+    n k at (passed .scratch) (passed .front .slot .0) (passed .front .relocs) code relocs
     × (length code ≡ length code₀) × (length relocs ≡ length relocs₀)
 
 abbrev μ-loop : tie.MeasureT-loop
-μ-loop unit variables hints marks emitted edges numbers code₀ relocs₀ c₀ st₀ front₀ code relocs c st front =
-    length unit - c .at
+μ-loop unit variables hints marks emitted endings edges numbers code₀ relocs₀ n passed₀ at₀ k₀ code relocs passed at k = n - k
+
+cast-n : tie.Need-cast-n Inv-loop μ-loop
+cast-n c = search needs
 
 put-requires : tie.Need-put-requires Inv-loop μ-loop
 put-requires c κs =
-    let s = c .before .before .before .before .before .before in
+    let s = c .before .before .before .before .before .before .before .before .before .before .before in
     first-room (s .args .unit .now) (s .args .found) (contextOf (s .args .variables .now) (s .args .hints .now) (s .args .marks .now)) (marked (s .args .emitted .now)) (s .pre .0) (s .pre .1 .1 .0) (s .pre .1 .1 .1 .1)
 
 loop-holds : tie.Need-loop-holds Inv-loop μ-loop
-unfolding firstBlock
 loop-holds c =
-    let s = c .before .before .before .before .before .before .before .before .before in
+    let s = c .before .before .before .before .before .before .before .before .before .before .before .before .before .before in
     let same : length (c .before .before .put .last .0) ≡ length (s .args .code .now) = ap length (c .before .before .put .ensures) ∙ simp length-sets in
-    (start (s .args .unit .now) (s .args .found) (contextOf (s .args .variables .now) (s .args .hints .now) (s .args .marks .now)) (marked (s .args .emitted .now)) (s .pre .0) (s .pre .1 .1 .0) _ _ (s .pre .1 .1 .1 .0) (rw same (s .pre .1 .1 .1 .1)), refl, refl)
+    (start (s .args .unit .now) (s .args .found) (contextOf (s .args .variables .now) (s .args .hints .now) (s .args .marks .now)) (marked (s .args .emitted .now)) (s .pre .0) (s .pre .1 .1 .0) (s .args .endings .now) _ _ (s .pre .1 .0 .1) (s .pre .1 .1 .1 .0) (rw same (s .pre .1 .1 .1 .1)), refl, refl)
 
-peek-requires : tie.Need-peek-requires Inv-loop μ-loop
-peek-requires c κs = search needs
+mul-end : tie.Need-mul-end Inv-loop μ-loop
+mul-end c = omega (arith, unit-of _ _ (c .before .before .before .before .before .before .before .before .before .before .before .before .before .before .before .before .pre .0) .bounds .blocks)
+
+shared-slice-read-end : tie.Need-shared-slice-read-end Inv-loop μ-loop
+shared-slice-read-end c = let s = c .before .before .before .before .before .before .before .before .before .before .before .before .before .before .before .before .before in omega (arith, ends-room (s .args .unit .now) (s .args .found) (s .args .endings .now) (s .pre .0) (s .pre .1 .0 .1))
+
+cast-end : tie.Need-cast-end Inv-loop μ-loop
+cast-end c =
+    let x = next (c .before .before .loop .inv .0) (c .before .loop-test .taken) in
+    omega (arith, inside (x .writing), unit-of _ _ (c .before .before .before .before .before .before .before .before .before .before .before .before .before .before .before .before .before .pre .0) .short)
+
+add-put-block : tie.Need-add-put-block Inv-loop μ-loop
+add-put-block c =
+    let x = next (c .before .before .before .loop .inv .0) (c .before .before .loop-test .taken) in
+    omega (arith, before (x .writing), inside (x .writing), unit-of _ _ (c .before .before .before .before .before .before .before .before .before .before .before .before .before .before .before .before .before .before .pre .0) .short)
+
+put-block-requires : tie.Need-put-block-requires Inv-loop μ-loop
+put-block-requires c κs =
+    let s = c .before .before .before .before .before .before .before .before .before .before .before .before .before .before .before .before .before .before .before .before in
+    let few = unit-of _ _ (s .pre .0) .bounds .blocks in
+    let x = next (c .before .before .before .before .before .loop .inv .0) (c .before .before .before .before .loop-test .taken) in
+    ((s .pre .1 .0 .0, inside (x .writing), unit-of _ _ (s .pre .0) .short, omega (arith, few), omega arith, omega arith), (room-block (x .writing), written (x .writing) .reach))
+
+add-at : tie.Need-add-at Inv-loop μ-loop
+add-at c =
+    let x = next (c .before .before .before .before .before .before .before .before .before .before .loop .inv .0) (c .before .before .before .before .before .before .before .before .before .loop-test .taken) in
+    omega (arith, inside (x .writing), unit-of _ _ (c .before .before .before .before .before .before .before .before .before .before .before .before .before .before .before .before .before .before .before .before .before .before .before .before .before .pre .0) .short)
+
+get-u16-requires : tie.Need-get-u16-requires Inv-loop μ-loop
+get-u16-requires c κs = search needs
+
+cast-at : tie.Need-cast-at Inv-loop μ-loop
+cast-at c = omega arith
+
+add-at-2 : tie.Need-add-at-2 Inv-loop μ-loop
+add-at-2 c =
+    let x = next (c .before .before .before .before .before .before .before .before .before .before .before .loop .inv .0) (c .before .before .before .before .before .before .before .before .before .before .loop-test .taken) in
+    omega (arith, inside (x .writing), unit-of _ _ (c .before .before .before .before .before .before .before .before .before .before .before .before .before .before .before .before .before .before .before .before .before .before .before .before .before .before .pre .0) .short)
+
+add-k : tie.Need-add-k Inv-loop μ-loop
+add-k c = omega (arith, unit-of _ _ (c .before .before .before .before .before .before .before .before .before .before .before .before .before .before .before .before .before .before .before .before .before .before .before .before .before .before .pre .0) .bounds .blocks)
+
+loop-less : tie.Need-loop-less Inv-loop μ-loop
+loop-less c = omega arith
+
+loop-again : tie.Need-loop-again Inv-loop μ-loop
+unfolding nextAt
+loop-again c =
+    let l = c .before .before .before .before .before .before .before .before .before .before .before .loop in
+    let x = next (l .inv .0) (c .before .before .before .before .before .before .before .before .before .before .loop-test .taken) in
+    let put = c .before .before .before .before .before .put-block .ensures in
+    (passed x (put .0 _ (written (x .writing))) (put .1) (ap (λ (n : ℕ). getD (c .before .before .before .before .before .before .before .before .before .before .before .before .before .before .before .before .before .before .before .before .before .before .before .before .before .before .args .endings .now) (l .k) 0 + 4 + n) (c .get-u16 .ensures)), omega arith, omega arith)
 
 same-length : tie.Need-same-length Inv-loop μ-loop
 same-length c = search needs
@@ -56,44 +104,8 @@ same-length-2 c = search needs
 returns : tie.Need-returns Inv-loop μ-loop
 unfolding opcodeOf
 returns c =
-    let s = c .before .before .before .before .before .before .before .before .before .before .before .before .before in
-    let l = c .before .before .before .loop in (
-      code-done (l .inv .0) (c .before .before .peek .ensures) (c .if1 .taken) ∙ code-whole (s .args .unit .now) (s .args .found) (contextOf (s .args .variables .now) (s .args .hints .now) (s .args .marks .now)) (marked (s .args .emitted .now)) (s .pre .0) (s .pre .1 .1 .0) (s .args .code .now) (c .before .before .before .before .before .before .put .ensures),
-      relocs-done (l .inv .0) (c .before .before .peek .ensures) (c .if1 .taken) ∙ relocs-whole (s .args .unit .now) (s .args .found) (contextOf (s .args .variables .now) (s .args .hints .now) (s .args .marks .now)) (marked (s .args .emitted .now)) (s .pre .0) (s .pre .1 .1 .0) (s .args .relocs .now),
-    )
-
-add-payload : tie.Need-add-payload Inv-loop μ-loop
-add-payload c = let o = passes (meets (c .before .before .before .before .loop .inv .0 .goes) (c .before .before .before .peek .ensures) (c .before .if1 .left)) in omega (arith, unit-of _ _ (c .before .before .before .before .before .before .before .before .before .before .before .before .before .before .pre .0) .short)
-
-sub-payload : tie.Need-sub-payload Inv-loop μ-loop
-sub-payload c = let o = passes (meets (c .before .before .before .before .loop .inv .0 .goes) (c .before .before .before .peek .ensures) (c .before .if1 .left)) in omega (arith, unit-of _ _ (c .before .before .before .before .before .before .before .before .before .before .before .before .before .before .pre .0) .short)
-
-part-payload-start : tie.Need-part-payload-start Inv-loop μ-loop
-part-payload-start c = let o = passes (meets (c .before .before .before .before .loop .inv .0 .goes) (c .before .before .before .peek .ensures) (c .before .if1 .left)) in omega (arith, unit-of _ _ (c .before .before .before .before .before .before .before .before .before .before .before .before .before .before .pre .0) .short)
-
-part-payload-end : tie.Need-part-payload-end Inv-loop μ-loop
-part-payload-end c = search needs
-
-put-record-requires : tie.Need-put-record-requires Inv-loop μ-loop
-put-record-requires c κs =
-    let s = c .before .before .before .before .before .before .before .before .before .before .before .before .before .before .before .before .before in
-    let w = c .before .before .before .before .before .before .before .loop .inv .0 in
-    let m = meets (w .goes) (c .before .before .before .before .before .before .peek .ensures) (c .before .before .before .before .if1 .left) in
-    ((s .pre .1 .0 .0, s .pre .1 .0 .2, s .pre .1 .0 .3, block-room w m (s .pre .1 .1 .0)), (rw (payload-whole _ _) (room-both w m), rw (payload-whole _ _) (written w m (s .pre .1 .1 .0) .reach)))
-
-after-requires : tie.Need-after-requires Inv-loop μ-loop
-after-requires c κs =
-    let s = c .before .before .before .before .before .before .before .before .before .before .before .before .before .before .before .before .before .before .before .before .before .before .before in
-    let w = c .before .before .before .before .before .before .before .before .before .before .before .before .before .loop .inv .0 in
-    (omega (arith, block-room w (meets (w .goes) (c .before .before .before .before .before .before .before .before .before .before .before .before .peek .ensures) (c .before .before .before .before .before .before .before .before .before .before .if1 .left)) (s .pre .1 .1 .0)), s .pre .1 .0 .1)
-
-loop-less : tie.Need-loop-less Inv-loop μ-loop
-loop-less c = let o = passes (meets (c .before .before .before .before .before .before .before .before .before .before .before .before .before .before .before .loop .inv .0 .goes) (c .before .before .before .before .before .before .before .before .before .before .before .before .before .before .peek .ensures) (c .before .before .before .before .before .before .before .before .before .before .before .before .if1 .left)) in omega arith
-
-loop-again : tie.Need-loop-again Inv-loop μ-loop
-loop-again c =
-    let w = c .before .before .before .before .before .before .before .before .before .before .before .before .before .before .before .loop .inv .0 in
-    (on-record w (meets (w .goes) (c .before .before .before .before .before .before .before .before .before .before .before .before .before .before .peek .ensures) (c .before .before .before .before .before .before .before .before .before .before .before .before .if1 .left)) (c .before .before .before .before .before .before .before .before .before .before .before .before .before .before .before .before .before .before .before .before .before .before .before .before .before .pre .1 .1 .0) (rw (payload-whole _ _) at (c .before .before .before .before .before .before .before .put-record .ensures .0)) (rw (payload-whole _ _) at (c .before .before .before .before .before .before .before .put-record .ensures .1)) (c .before .after .ensures), omega arith, omega arith)
+    let s = c .before .before .before .before .before .before .before .before .before .before .before .before .before .before .before .before in
+    unit-done (s .args .unit .now) (s .args .found) (contextOf (s .args .variables .now) (s .args .hints .now) (s .args .marks .now)) (marked (s .args .emitted .now)) (s .pre .0) (s .pre .1 .1 .0) (s .args .code .now) (s .args .relocs .now) (c .before .before .before .before .put .ensures) (done (c .before .loop .inv .0) (c .loop-test .left))
 
 pub write-unit-spec : {M : Type 1} → statement M
 write-unit-spec =
@@ -101,17 +113,21 @@ write-unit-spec =
     (tie.spec
     Inv-loop
     μ-loop
+    cast-n
     put-requires
     loop-holds
-    peek-requires
+    mul-end
+    shared-slice-read-end
+    cast-end
+    add-put-block
+    put-block-requires
+    add-at
+    get-u16-requires
+    cast-at
+    add-at-2
+    add-k
+    loop-less
+    loop-again
     same-length
     same-length-2
-    returns
-    add-payload
-    sub-payload
-    part-payload-start
-    part-payload-end
-    put-record-requires
-    after-requires
-    loop-less
-    loop-again)
+    returns)

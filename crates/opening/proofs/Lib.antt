@@ -1,0 +1,5 @@
+pub mod Choice
+pub mod Heads
+pub mod Same
+pub mod MapLaws
+pub mod SignedNames

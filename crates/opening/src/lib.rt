@@ -1,0 +1,108 @@
+// The head and the maps of a unit.
+mod names;
+mod signatures;
+
+use names::Maps;
+use record::Due;
+use record::Fault;
+use record::Head;
+use record::Read;
+use record::Record;
+use recordcheck::Checked;
+ghost use mathlib.Core.Path.{_≡_};
+ghost use lib.ListN.{length};
+ghost use Rattle.opening.specs.Names.{firstRecord, openUnit};
+ghost use Rattle.opening.specs.Places.{headOf, mapAt, mapFrom, bodyOf};
+ghost use Rattle.opening.specs.Inner.{Lies};
+
+// The head, and the byte after it.
+pub enum HeadAt {
+    Is(Head, usize),
+    Refused(Fault),
+}
+
+// A map's record: where its name lies, and the byte after it.
+pub enum MapAt {
+    Is {
+        start: usize,
+        len: usize,
+        next: usize,
+    },
+    Refused(Fault),
+}
+
+// The head, and the byte where the blocks begin.
+pub enum BodyAt {
+    Is(Head, usize),
+    Refused(Fault),
+}
+
+// The head of a unit, which is at most 262,144 bytes long.
+pub fn head_at(s: &[u8]) -> HeadAt
+    ensures { λ r. ⌜ r ≡ headOf (firstRecord (now (s .entry))) ⌝ }
+{
+    if 262144 < s.len() {
+        return HeadAt::Refused(Fault::TooLong);
+    }
+    match record::read_record(s, 0, Due::Head, 0) {
+        Read::Record(r, next) => {
+            let Record::Head(head) = r else {
+                return HeadAt::Refused(Fault::NoHead);
+            };
+            HeadAt::Is(head, next)
+        }
+        Read::Refused(f) => HeadAt::Refused(f),
+    }
+}
+
+// The map's record at a byte.
+pub(crate) fn map_at(s: &[u8], at: usize) -> MapAt
+    ensures { λ r. ⌜ (r ≡ mapAt (now (s .entry)) at) × Lies (length (now (s .entry))) r ⌝ }
+{
+    match recordcheck::check_record(s, at, Due::Map, 0) {
+        Checked::Next(_, next) => {
+            let start = at + 4;
+            MapAt::Is {
+                start: start,
+                len: next - start,
+                next: next,
+            }
+        }
+        Checked::Refused(f) => MapAt::Refused(f),
+    }
+}
+
+// The map after k from a byte on.
+pub fn map_from(s: &[u8], first: usize, k: u32) -> MapAt
+    ensures { λ r. ⌜ r ≡ mapFrom (now (s .entry)) first k ⌝ }
+{
+    let mut at = first;
+    let mut left = k;
+    while 0 < left {
+        let m = map_at(s, at);
+        let MapAt::Is {
+            start: _,
+            len: _,
+            next,
+        } = m
+        else {
+            return m;
+        };
+        at = next;
+        left = left - 1;
+    }
+    map_at(s, at)
+}
+
+// The head and where the blocks begin, if no name of a map comes twice.
+pub fn open_unit(s: &[u8]) -> BodyAt
+    ensures { λ r. ⌜ r ≡ bodyOf (openUnit (now (s .entry))) ⌝ }
+{
+    match head_at(s) {
+        HeadAt::Is(head, first) => match names::read_maps(s, first, head.maps) {
+            Maps::Until(at) => BodyAt::Is(head, at),
+            Maps::Refused(f) => BodyAt::Refused(f),
+        },
+        HeadAt::Refused(f) => BodyAt::Refused(f),
+    }
+}

@@ -1,0 +1,25 @@
+-- `keep` writes where there is room; past the end a store changes nothing.
+use mathlib.Core.Path.{sym}
+use native.Mathlib.Omega.{arith}
+use lib.Seq.{set-out}
+use borrow.Author.Needs.{needs}
+use Rattle.survey.proofs.pass.keep.Statement.{statement}
+use Rattle.survey.proofs.pass.keep.Tie as tie
+
+mul-list : tie.Need-mul-list
+mul-list c = search needs
+
+slice-write-list : tie.Need-slice-write-list
+slice-write-list c = search needs
+
+same-length : tie.Need-same-length
+same-length c = search needs
+
+returns : tie.Need-returns
+returns c = search needs
+
+returns-2 : tie.Need-returns-2
+returns-2 c = sym (set-out _ _ _ (omega arith))
+
+pub keep-spec : {M : Type 1} → statement M
+keep-spec = tie.close (tie.spec mul-list slice-write-list same-length returns returns-2)
