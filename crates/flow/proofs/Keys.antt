@@ -53,7 +53,7 @@ module _ {n : ℕ} {ids keys : List ℕ} (d : Keyed n ids keys) where
   pub keyed-ascends : Ascending (take n keys)
   keyed-ascends = rw (d .sorts) (sorted-ascending (keysFrom 0 (take n ids)))
 
-  pub ids-count : length (take n ids) ≡ n
+  ids-count : length (take n ids) ≡ n
   ids-count = length-take-le n ids (d .size)
 
   keys-count : length (take n keys) ≡ n

@@ -4,6 +4,8 @@ pub mod Numbers
 pub mod Laws
 pub mod Room
 mod Keys
+mod Places
+mod One
 mod Passes
 mod Reaching
 mod Linking

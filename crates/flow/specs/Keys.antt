@@ -17,15 +17,8 @@ pub record Keyed (n : ℕ) (ids keys : List ℕ) : Type 0 where
   pub room : n ≤ length keys
   pub sorts : take n keys ≡ sorted (keysFrom 0 (take n ids))
 
--- the first r numbers of l are below the bound; from r on they are not
-abbrev pub Under : List ℕ → ℕ → ℕ → Type 0
-Under l bound r = (k : ℕ) → k < r → getD l k 0 < bound
-
-abbrev pub Over : List ℕ → ℕ → ℕ → Type 0
-Over l bound r = (k : ℕ) → r ≤ k → k < length l → bound ≤ getD l k 0
-
 -- r numbers of l are below the bound: the first r
 pub record Cut (l : List ℕ) (bound r : ℕ) : Type 0 where
   pub most : r ≤ length l
-  pub under : Under l bound r
-  pub over : Over l bound r
+  pub under : (k : ℕ) → k < r → getD l k 0 < bound
+  pub over : (k : ℕ) → r ≤ k → k < length l → bound ≤ getD l k 0

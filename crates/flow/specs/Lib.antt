@@ -3,4 +3,5 @@ pub mod Reached
 pub mod Computed
 pub mod Linked
 pub mod Keys
+pub mod Places
 pub mod Way

@@ -1,12 +1,17 @@
 // The flow of a unit's blocks: which are emitted, and which block a target means.
+// An id is found at its place in a table; keys are sorted and searched only where some block's id is not told by its place.
 ghost use mathlib.Core.Path.{_≡_};
-ghost use Prim.Native.Nat.{_+_, _*_, _≤_, _<_, min};
+ghost use mathlib.Core.Bool.{true};
+ghost use mathlib.Core.List.{List};
+ghost use Prim.Native.Nat.{ℕ, _+_, _*_, _≤_, _<_};
+ghost use lib.Dec.{eqb};
 ghost use lib.ListN.{length, take, getD};
 ghost use lib.Seq.{sets};
 ghost use Rattle.wire.specs.Pick.{pick};
 ghost use Rattle.sort.specs.Order.{Ascending};
 ghost use Rattle.flow.specs.Linked.{numberFrom, numbers, linkedTargets, linkedFlags, roomFor, room};
-ghost use Rattle.flow.specs.Keys.{keysFrom, Keyed, Under, Over, Cut};
+ghost use Rattle.flow.specs.Keys.{keysFrom, Keyed, Cut};
+ghost use Rattle.flow.specs.Places.{placeOf, placedNumber, Put, AllPlaced, Told};
 ghost use Rattle.flow.specs.Way.{outs, Clear, Marked, marksOf};
 
 // The keys of the first n blocks: id * 1024 + number.
@@ -21,81 +26,71 @@ fn put_keys(n: usize, ids: &[u32], keys: &mut [u64])
     }
 }
 
-// The table by which the number of keys up to an id's last is guessed: nothing rests on it.
-fn put_guesses(n: usize, keys: &[u64], guesses: &mut [u16])
-    requires { ⌜ (n ≤ 1024) × (n ≤ length (now keys)) ⌝ }
+// An id's place in a table of at least 16 places, of which 4,096 are used at most.
+fn place_of(len: usize, id: u32) -> usize
+    ensures { λ r. ⌜ r ≡ placeOf len id ⌝ }
+{
+    let place = (id % 4096) as usize;
+    if place < len {
+        return place;
+    }
+    place % 16
+}
+
+// Each block's number plus one, at its id's place; of two that share a place, the later block's.
+fn put_places(n: usize, ids: &[u32], places: &mut [u16])
+    requires { ⌜ (n ≤ 1024) × (n ≤ length (now ids)) × (16 ≤ length (now places)) ⌝ }
+    ensures { λ _. ⌜ Put n (now (ids .entry)) (now (places .exit)) ⌝ }
 {
     let mut i = 0;
     while i < n {
-        let place = ((keys[i] / 1024) % 4096) as usize;
+        let place = place_of(places.len(), ids[i]);
+        places[place] = (i + 1) as u16;
         i += 1;
-        if place < guesses.len() {
-            guesses[place] = i as u16;
+    }
+}
+
+// The number of the block that an id's place tells, 1,024 where it tells none with this id.
+fn placed(n: usize, ids: &[u32], places: &[u16], id: u32) -> u32
+    requires { ⌜ (n ≤ 1024) × (n ≤ length (now ids)) × (16 ≤ length (now places)) ⌝ }
+    ensures { λ r. ⌜ r ≡ placedNumber n (now (ids .entry)) (now (places .entry)) id ⌝ }
+{
+    let told = places[place_of(places.len(), id)] as usize;
+    if told == 0 {
+        return 1024;
+    }
+    if n < told {
+        return 1024;
+    }
+    let block_id = ids[told - 1];
+    if block_id == id {
+        return (told - 1) as u32;
+    }
+    1024
+}
+
+// Whether each block's id is told by its place.
+fn all_placed(n: usize, ids: &[u32], places: &[u16]) -> bool
+    requires { ⌜ (n ≤ 1024) × (n ≤ length (now ids)) × (16 ≤ length (now places)) ⌝ }
+    ensures { λ r. ⌜ (r ≡ true → AllPlaced n (now (ids .entry)) (now (places .entry))) ⌝ }
+{
+    let mut i = 0;
+    while i < n {
+        if placed(n, ids, places, ids[i]) == 1024 {
+            return false;
         }
+        i += 1;
     }
+    true
 }
 
-// The sorted keys of the first n blocks, and the table to guess by.
-fn sort_keys(n: usize, ids: &[u32], keys: &mut [u64], guesses: &mut [u16])
-    requires { ⌜ (n ≤ 1024) × (n ≤ length (now ids)) × (n ≤ length (now keys)) ⌝ }
-    ensures { λ _. ⌜ Keyed n (now (ids .entry)) (now (keys .exit)) ⌝ }
-{
-    put_keys(n, ids, keys);
-    sort::sort(keys, n);
-    put_guesses(n, keys, guesses);
-}
-
-// A guess of how many of n keys are of ids up to this one: right where the table holds its place, and no later id shares it.
-fn guess(guesses: &[u16], n: usize, id: u32) -> usize
-    ensures { λ r. ⌜ r ≤ n ⌝ }
-{
-    let place = (id % 4096) as usize;
-    if place < guesses.len() {
-        return least(guesses[place] as usize, n);
-    }
-    0
-}
-
-fn least(a: usize, b: usize) -> usize
-    ensures { λ r. ⌜ r ≡ min a b ⌝ }
-{
-    if a < b { a } else { b }
-}
-
-// At least so many keys are below the bound: the first p, if the last of them is.
-fn at_least(keys: &[u64], n: usize, bound: u64, p: usize) -> usize
-    requires { ⌜ (p ≤ n) × (n ≤ length (now keys)) × Ascending (take n (now keys)) ⌝ }
-    ensures { λ r. ⌜ (r ≤ p) × Under (take n (now (keys .entry))) bound r ⌝ }
-{
-    if p == 0 {
-        return 0;
-    }
-    if keys[p - 1] < bound {
-        return p;
-    }
-    0
-}
-
-// At most so many: the first p, if the one after them is not.
-fn at_most(keys: &[u64], n: usize, bound: u64, p: usize) -> usize
-    requires { ⌜ (p ≤ n) × (n ≤ length (now keys)) × Ascending (take n (now keys)) ⌝ }
-    ensures { λ r. ⌜ (p ≤ r) × (r ≤ n) × Over (take n (now (keys .entry))) bound r ⌝ }
-{
-    if p < n {
-        if bound <= keys[p] {
-            return p;
-        }
-    }
-    n
-}
-
-// How many of the first n keys, which ascend, are below a bound: p, if the guess is right.
-fn below(keys: &[u64], n: usize, bound: u64, p: usize) -> usize
-    requires { ⌜ (p ≤ n) × (n ≤ length (now keys)) × Ascending (take n (now keys)) ⌝ }
+// How many of the first n keys, which ascend, are below a bound.
+fn below(keys: &[u64], n: usize, bound: u64) -> usize
+    requires { ⌜ (n ≤ length (now keys)) × Ascending (take n (now keys)) ⌝ }
     ensures { λ r. ⌜ Cut (take n (now (keys .entry))) bound r ⌝ }
 {
-    let mut lo = at_least(keys, n, bound, p);
-    let mut hi = at_most(keys, n, bound, p);
+    let mut lo = 0;
+    let mut hi = n;
     while lo < hi {
         let mid = lo + (hi - lo) / 2;
         if keys[mid] < bound {
@@ -107,13 +102,12 @@ fn below(keys: &[u64], n: usize, bound: u64, p: usize) -> usize
     lo
 }
 
-// The number of the last of the first n blocks that has an id, 1,024 for none.
-fn find(n: usize, ids: &[u32], keys: &[u64], guesses: &[u16], id: u32) -> u32
+// The number of the last of the first n blocks that has an id, 1,024 for none: by the last key below the next id's.
+fn search(n: usize, ids: &[u32], keys: &[u64], id: u32) -> u32
     requires { ⌜ Keyed n (now ids) (now keys) ⌝ }
     ensures { λ r. ⌜ r ≡ numberFrom 0 (take n (now (ids .entry))) id ⌝ }
 {
-    let p = guess(guesses, n, id);
-    let past = below(keys, n, (id as u64) * 1024 + 1024, p);
+    let past = below(keys, n, (id as u64) * 1024 + 1024);
     if past == 0 {
         return 1024;
     }
@@ -124,25 +118,40 @@ fn find(n: usize, ids: &[u32], keys: &[u64], guesses: &[u16], id: u32) -> u32
     1024
 }
 
+// The same number, by the id's place where that tells it. There are keys only where some block's id is not told by its place.
+fn find(n: usize, ids: &[u32], keys: &[u64], places: &[u16], id: u32) -> u32
+    requires { ⌜ Told n (now ids) (now keys) (now places) ⌝ }
+    ensures { λ r. ⌜ r ≡ numberFrom 0 (take n (now (ids .entry))) id ⌝ }
+{
+    let number = placed(n, ids, places, id);
+    if number < 1024 {
+        return number;
+    }
+    if keys.len() == 0 {
+        return 1024;
+    }
+    search(n, ids, keys, id)
+}
+
 // The number that the first block's id means.
-fn first_number(n: usize, ids: &[u32], keys: &[u64], guesses: &[u16]) -> u32
-    requires { ⌜ Keyed n (now ids) (now keys) ⌝ }
+fn first_number(n: usize, ids: &[u32], keys: &[u64], places: &[u16]) -> u32
+    requires { ⌜ Told n (now ids) (now keys) (now places) ⌝ }
     ensures { λ r. ⌜ r ≡ numberFrom 0 (take n (now (ids .entry))) (getD (now (ids .entry)) 0 0) ⌝ }
 {
     if n == 0 {
         return 1024;
     }
-    find(n, ids, keys, guesses, ids[0])
+    find(n, ids, keys, places, ids[0])
 }
 
 // Each of the n blocks' two targets becomes the number of the block it means.
-fn put_numbers(n: usize, ids: &[u32], keys: &[u64], guesses: &[u16], targets: &mut [u32])
-    requires { ⌜ Keyed n (now ids) (now keys) × (2 * n ≤ length (now targets)) ⌝ }
+fn put_numbers(n: usize, ids: &[u32], keys: &[u64], places: &[u16], targets: &mut [u32])
+    requires { ⌜ Told n (now ids) (now keys) (now places) × (2 * n ≤ length (now targets)) ⌝ }
     ensures { λ _. ⌜ now (targets .exit) ≡ sets (now (targets .entry)) 0 (numbers (take n (now (ids .entry))) (take (2 * n) (now (targets .entry)))) ⌝ }
 {
     let mut j = 0;
     while j < 2 * n {
-        targets[j] = find(n, ids, keys, guesses, targets[j]);
+        targets[j] = find(n, ids, keys, places, targets[j]);
         j += 1;
     }
 }
@@ -198,39 +207,122 @@ fn reach(
 }
 
 // A block is emitted where the last block with its id is marked.
-fn put_flags(n: usize, ids: &[u32], keys: &[u64], guesses: &[u16], marks: &[u8], emitted: &mut [u8])
-    requires { ⌜ Keyed n (now ids) (now keys) × (n ≤ length (now marks)) × (n ≤ length (now emitted)) ⌝ }
+fn put_flags(n: usize, ids: &[u32], keys: &[u64], places: &[u16], marks: &[u8], emitted: &mut [u8])
+    requires { ⌜ Told n (now ids) (now keys) (now places) × (n ≤ length (now marks)) × (n ≤ length (now emitted)) ⌝ }
     ensures { λ _. ⌜ now (emitted .exit) ≡ sets (now (emitted .entry)) 0 (marksOf (now (marks .entry)) (take n (now (ids .entry))) (take n (now (ids .entry)))) ⌝ }
 {
     let mut i = 0;
     while i < n {
-        let last = find(n, ids, keys, guesses, ids[i]) as usize;
+        let last = find(n, ids, keys, places, ids[i]) as usize;
         emitted[i] = marks[last];
         i += 1;
     }
 }
 
-// Links n blocks over lent tables.
+// Links n blocks, whose ids are found by places and keys.
+fn link_found(
+    n: usize,
+    ids: &[u32],
+    counts: &[u8],
+    targets: &mut [u32],
+    emitted: &mut [u8],
+    keys: &[u64],
+    places: &[u16],
+    marks: &mut [u8],
+    pending: &mut [u32],
+)
+    requires { ⌜ Told n (now ids) (now keys) (now places) × (n ≤ length (now counts)) × (2 * n ≤ length (now targets)) × (n ≤ length (now emitted)) × (n ≤ length (now marks)) × (2 * n < length (now pending)) × Clear (now marks) ⌝ }
+    ensures { λ _. ⌜ now (targets .exit) ≡ linkedTargets n (now (ids .entry)) (now (targets .entry)) ⌝ }
+    ensures { λ _. ⌜ now (emitted .exit) ≡ linkedFlags n (now (ids .entry)) (now (counts .entry)) (now (targets .entry)) (now (emitted .entry)) ⌝ }
+{
+    put_numbers(n, ids, keys, places, targets);
+    let first = first_number(n, ids, keys, places);
+    reach(n, first, counts, targets, marks, pending);
+    put_flags(n, ids, keys, places, marks, emitted);
+}
+
+// Links n blocks of which some id is not told by its place.
+fn link_sorted(
+    n: usize,
+    ids: &[u32],
+    counts: &[u8],
+    targets: &mut [u32],
+    emitted: &mut [u8],
+    places: &[u16],
+    marks: &mut [u8],
+    pending: &mut [u32],
+)
+    requires { ⌜ (n ≤ 1024) × (n ≤ length (now ids)) × (16 ≤ length (now places)) × Put n (now ids) (now places) × (n ≤ length (now counts)) × (2 * n ≤ length (now targets)) × (n ≤ length (now emitted)) × (n ≤ length (now marks)) × (2 * n < length (now pending)) × Clear (now marks) ⌝ }
+    ensures { λ _. ⌜ now (targets .exit) ≡ linkedTargets n (now (ids .entry)) (now (targets .entry)) ⌝ }
+    ensures { λ _. ⌜ now (emitted .exit) ≡ linkedFlags n (now (ids .entry)) (now (counts .entry)) (now (targets .entry)) (now (emitted .entry)) ⌝ }
+{
+    let mut keys = [0u64; 1024];
+    put_keys(n, ids, &mut keys);
+    sort::sort(&mut keys, n);
+    link_found(
+        n,
+        ids,
+        counts,
+        targets,
+        emitted,
+        &keys,
+        places,
+        marks,
+        pending,
+    );
+}
+
+// Links n blocks over lent tables, without keys where they are not needed.
 fn link_front(
     n: usize,
     ids: &[u32],
     counts: &[u8],
     targets: &mut [u32],
     emitted: &mut [u8],
-    keys: &mut [u64],
-    guesses: &mut [u16],
+    places: &mut [u16],
     marks: &mut [u8],
     pending: &mut [u32],
 )
-    requires { ⌜ (n ≤ 1024) × (n ≤ length (now ids)) × (n ≤ length (now counts)) × (2 * n ≤ length (now targets)) × (n ≤ length (now emitted)) × (n ≤ length (now keys)) × (n ≤ length (now marks)) × (2 * n < length (now pending)) × Clear (now marks) ⌝ }
+    requires { ⌜ (n ≤ 1024) × (n ≤ length (now ids)) × (16 ≤ length (now places)) × (n ≤ length (now counts)) × (2 * n ≤ length (now targets)) × (n ≤ length (now emitted)) × (n ≤ length (now marks)) × (2 * n < length (now pending)) × Clear (now marks) ⌝ }
     ensures { λ _. ⌜ now (targets .exit) ≡ linkedTargets n (now (ids .entry)) (now (targets .entry)) ⌝ }
     ensures { λ _. ⌜ now (emitted .exit) ≡ linkedFlags n (now (ids .entry)) (now (counts .entry)) (now (targets .entry)) (now (emitted .entry)) ⌝ }
 {
-    sort_keys(n, ids, keys, guesses);
-    put_numbers(n, ids, keys, guesses, targets);
-    let first = first_number(n, ids, keys, guesses);
-    reach(n, first, counts, targets, marks, pending);
-    put_flags(n, ids, keys, guesses, marks, emitted);
+    put_places(n, ids, places);
+    if all_placed(n, ids, places) {
+        let keys = [0u64; 1];
+        link_found(
+            n,
+            ids,
+            counts,
+            targets,
+            emitted,
+            &keys[0..0],
+            places,
+            marks,
+            pending,
+        );
+    } else {
+        link_sorted(n, ids, counts, targets, emitted, places, marks, pending);
+    }
+}
+
+// The number of an only block where it has a target's id, else 1,024.
+fn number_of_one(id: u32, target: u32) -> u32
+    ensures { λ r. ⌜ r ≡ pick (eqb id target) 0 1024 ⌝ }
+{
+    if id == target { 0 } else { 1024 }
+}
+
+// An only block is emitted, and a target means it or none: so its count of targets tells nothing.
+fn link_one(ids: &[u32], targets: &mut [u32], emitted: &mut [u8])
+    requires { ⌜ (1 ≤ length (now ids)) × (2 ≤ length (now targets)) × (1 ≤ length (now emitted)) ⌝ }
+    ensures { λ _. ⌜ now (targets .exit) ≡ linkedTargets 1 (now (ids .entry)) (now (targets .entry)) ⌝ }
+    ensures { λ _. ⌜ ((counts : List ℕ) → now (emitted .exit) ≡ linkedFlags 1 (now (ids .entry)) counts (now (targets .entry)) (now (emitted .entry))) ⌝ }
+{
+    let id = ids[0];
+    targets[0] = number_of_one(id, targets[0]);
+    targets[1] = number_of_one(id, targets[1]);
+    emitted[0] = 1;
 }
 
 // Few blocks have small tables, since a table costs its filling.
@@ -239,8 +331,7 @@ fn link_few(n: usize, ids: &[u32], counts: &[u8], targets: &mut [u32], emitted: 
     ensures { λ _. ⌜ now (targets .exit) ≡ linkedTargets n (now (ids .entry)) (now (targets .entry)) ⌝ }
     ensures { λ _. ⌜ now (emitted .exit) ≡ linkedFlags n (now (ids .entry)) (now (counts .entry)) (now (targets .entry)) (now (emitted .entry)) ⌝ }
 {
-    let mut keys = [0u64; 16];
-    let mut guesses = [0u16; 16];
+    let mut places = [0u16; 16];
     let mut marks = [0u8; 16];
     let mut pending = [0u32; 33];
     link_front(
@@ -249,8 +340,7 @@ fn link_few(n: usize, ids: &[u32], counts: &[u8], targets: &mut [u32], emitted: 
         counts,
         targets,
         emitted,
-        &mut keys,
-        &mut guesses,
+        &mut places,
         &mut marks,
         &mut pending,
     );
@@ -261,8 +351,7 @@ fn link_many(n: usize, ids: &[u32], counts: &[u8], targets: &mut [u32], emitted:
     ensures { λ _. ⌜ now (targets .exit) ≡ linkedTargets n (now (ids .entry)) (now (targets .entry)) ⌝ }
     ensures { λ _. ⌜ now (emitted .exit) ≡ linkedFlags n (now (ids .entry)) (now (counts .entry)) (now (targets .entry)) (now (emitted .entry)) ⌝ }
 {
-    let mut keys = [0u64; 1024];
-    let mut guesses = [0u16; 4096];
+    let mut places = [0u16; 4096];
     let mut marks = [0u8; 1024];
     let mut pending = [0u32; 2049];
     link_front(
@@ -271,8 +360,7 @@ fn link_many(n: usize, ids: &[u32], counts: &[u8], targets: &mut [u32], emitted:
         counts,
         targets,
         emitted,
-        &mut keys,
-        &mut guesses,
+        &mut places,
         &mut marks,
         &mut pending,
     );
@@ -308,7 +396,9 @@ pub fn link(n: usize, ids: &[u32], counts: &[u8], targets: &mut [u32], emitted: 
     ensures { λ _. ⌜ now (emitted .exit) ≡ pick (room n (now (ids .entry)) (now (counts .entry)) (now (targets .entry)) (now (emitted .entry))) (linkedFlags n (now (ids .entry)) (now (counts .entry)) (now (targets .entry)) (now (emitted .entry))) (now (emitted .entry)) ⌝ }
 {
     if has_room(n, ids.len(), counts.len(), targets.len(), emitted.len()) {
-        if n <= 16 {
+        if n == 1 {
+            link_one(ids, targets, emitted);
+        } else if n <= 16 {
             link_few(n, ids, counts, targets, emitted);
         } else {
             link_many(n, ids, counts, targets, emitted);

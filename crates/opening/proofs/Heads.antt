@@ -95,6 +95,10 @@ module _ (b : List ℕ) where
   unfolding openUnit
   open-shut = shut-by b (firstRecord b)
 
+pub body-of-none : (b : List ℕ) (h : Head) (first : ℕ) → h .maps ≡ 0 → bodyOf (withNames h (namesAt b [] first (h .maps))) ≡ B.Is h first
+unfolding namesAt withNames bodyOf
+body-of-none b h first e = rw e refl
+
 pub body-until : (h : Head) (n : Names) (at : ℕ) → mapsOf n ≡ Ms.Until at → bodyOf (withNames h n) ≡ B.Is h at
 unfolding mapsOf withNames bodyOf
 body-until h (named names to) at e = let z : to ≡ at = cc in ap (B.Is h) z

@@ -59,7 +59,7 @@ pub fn head_at(s: &[u8]) -> HeadAt
 pub(crate) fn map_at(s: &[u8], at: usize) -> MapAt
     ensures { λ r. ⌜ (r ≡ mapAt (now (s .entry)) at) × Lies (length (now (s .entry))) r ⌝ }
 {
-    match recordcheck::check_record(s, at, Due::Map, 0) {
+    match recordcheck::check_map(s, at) {
         Checked::Next(_, next) => {
             let start = at + 4;
             MapAt::Is {
@@ -94,15 +94,20 @@ pub fn map_from(s: &[u8], first: usize, k: u32) -> MapAt
     map_at(s, at)
 }
 
-// The head and where the blocks begin, if no name of a map comes twice.
+// The head and where the blocks begin, if no name of a map comes twice. Where there are no maps, no table of their signatures is filled.
 pub fn open_unit(s: &[u8]) -> BodyAt
     ensures { λ r. ⌜ r ≡ bodyOf (openUnit (now (s .entry))) ⌝ }
 {
     match head_at(s) {
-        HeadAt::Is(head, first) => match names::read_maps(s, first, head.maps) {
-            Maps::Until(at) => BodyAt::Is(head, at),
-            Maps::Refused(f) => BodyAt::Refused(f),
-        },
+        HeadAt::Is(head, first) => {
+            if head.maps == 0 {
+                return BodyAt::Is(head, first);
+            }
+            match names::read_maps(s, first, head.maps) {
+                Maps::Until(at) => BodyAt::Is(head, at),
+                Maps::Refused(f) => BodyAt::Refused(f),
+            }
+        }
         HeadAt::Refused(f) => BodyAt::Refused(f),
     }
 }

@@ -108,10 +108,7 @@ unit-bytes b u e = go (decided b)
 pub kept-slots : (b : List ℕ) (u : UnitIr) (reached : ℕ → Bool) (c : Context) (l : List Op) → parse b ≡ parsed u → unitOps c (keep reached (u .blocks)) ≡ laid l → slotsOf l ≤ 131072
 kept-slots b u reached c l p e = unit-slots c (keep reached (u .blocks)) l e (omega (arith, sizes-keep reached (u .blocks), unit-bytes b u p))
 
--- the emitted blocks of a unit that was read, and all its blocks
+-- the emitted blocks of a unit that was read
 pub emitted-slots : (b : List ℕ) (u : UnitIr) (c : Context) (l : List Op) → parse b ≡ parsed u → unitOps c (emitted (u .blocks)) ≡ laid l → slotsOf l ≤ 131072
 unfolding emitted
 emitted-slots b u c l = kept-slots b u _ c l
-
-pub all-slots : (b : List ℕ) (u : UnitIr) (c : Context) (l : List Op) → parse b ≡ parsed u → unitOps c (u .blocks) ≡ laid l → slotsOf l ≤ 131072
-all-slots b u c l p e = unit-slots c (u .blocks) l e (unit-bytes b u p)

@@ -14,8 +14,8 @@ use Rattle.unitfile.specs.declared.ReadUnit.the-variants as U
 use Rattle.survey.specs.Surveyed.{endings, blocksOf}
 use Rattle.survey.proofs.Bounds.{blocks-count}
 use Rattle.survey.proofs.Flat.{endings-count}
+use Rattle.survey.proofs.Standing.{Standing, standing, standing-head, standing-tail}
 use Rattle.passes.specs.Notes.{closingsAt, EndsAt}
-use Rattle.passes.proofs.Standing.{Standing, standing, standing-head, standing-tail}
 
 unfoldable pub closings : List BasicBlock → List Terminator
 closings [] = []

@@ -1,5 +1,5 @@
 pub mod Payload
-pub mod Standing
+pub mod Ring
 pub mod Places
 pub mod Kept
 pub mod Marks

@@ -26,9 +26,11 @@ use Rattle.frame.specs.Cell.{Frame}
 use Rattle.frame.specs.Hint.{frameBy}
 use Rattle.lower.specs.Instruction.{opcode, instruction, scratchAfter}
 use Rattle.lower.specs.Payload.{operandsOf, instructionIn, scratchIn}
+use Rattle.lower.specs.Held.{held}
+use Rattle.lower.specs.declared.Emitted.{Emitted}
 use Rattle.layout.proofs.Tidy.{Tidy, tidy-opcode}
 use Rattle.passes.specs.Inner.{contextOf, conditionIn}
-use Rattle.passes.specs.Places.{payloadAt, instructionBy}
+use Rattle.passes.specs.Places.{payloadAt, instructionBy, ringOn, ringBy}
 use Rattle.wire.proofs.Part.{byte-drop, unsigned-drop, signed-drop, unsigned-first}
 
 -- the payload as the code lends it: the part from there to the unit's end
@@ -120,3 +122,8 @@ asked-by f j t p false e = same-opcode f j false t _ _ (fieldsAt p 0) e
 pub asked-is : (vs hs ms : List ℕ) (j : ℕ) (p : List ℕ) {t : Bool} → t ≡ conditionIn (contextOf vs hs ms) p → instructionIn (frameBy vs hs) j t p ≡ instructionBy (contextOf vs hs ms) j p
 unfolding conditionIn instructionBy
 asked-is vs hs ms j p e = ap (λ (t : Bool). instructionIn (frameBy vs hs) j t p) e ∙ asked-by (frameBy vs hs) j _ p (eqb (byteAt p 4) 7) refl
+
+-- the scratch position, by what the lowering told
+pub ring-is : (vs hs ms : List ℕ) (j : ℕ) (p : List ℕ) {t : Bool} {e : Emitted} → t ≡ conditionIn (contextOf vs hs ms) p → e ≡ held (instructionIn (frameBy vs hs) j t p) → ringOn (e .map) j (scratchIn j p) ≡ ringBy (contextOf vs hs ms) j p
+unfolding ringBy
+ring-is vs hs ms j p asked told = ap (λ (x : Emitted). ringOn (x .map) j (scratchIn j p)) (told ∙ ap held (asked-is vs hs ms j p asked))

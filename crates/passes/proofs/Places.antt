@@ -9,6 +9,7 @@ use lib.Dec.{ltb}
 use mir.Syntax.{w32}
 use Rattle.wire.specs.Pick.{pick}
 use Rattle.wire.specs.Le.{unsignedAt}
+use Rattle.ir.specs.Operands.{listOf}
 use Rattle.ir.specs.declared.Instruction.{Instruction}
 use Rattle.ir.specs.declared.Terminator.{Terminator}
 use Rattle.record.specs.Frame.{nextAt}
@@ -20,9 +21,10 @@ use Rattle.lower.specs.Terminator.{terminator}
 use Rattle.layout.specs.Layout.{Context, at, ops, instructions, scratchThrough, block}
 use Rattle.layout.specs.Inner.{blockBy, scratchBy}
 use Rattle.layout.proofs.Laid.{Fine, both-fine}
-use Rattle.passes.specs.Places.{payloadAt, instructionBy, placesIn, places, opsAt, ringAt, endOps, blockOps, blockRing}
+use Rattle.survey.proofs.Standing.{Chain, BlockAt}
+use Rattle.passes.specs.Places.{payloadAt, instructionBy, placesIn, places, ringBy, opsAt, ringAt, endOps, blockOps, blockRing}
 use Rattle.passes.proofs.Payload.{result-is, instruction-is, scratch-is}
-use Rattle.passes.proofs.Standing.{Chain, BlockAt}
+use Rattle.passes.proofs.Ring.{ring-after}
 
 same : (t : Bool) (x y : List ℕ) → (t ≡ true → x ≡ y) → pick t x [] ≡ pick t y []
 same true x y h = h refl
@@ -70,6 +72,12 @@ module _ (c : Context) (b : List ℕ) where
   unfolding instructionBy
   instruction-by j place i h = rw (instruction-is b place i h (c .frame) j (c .condition (unsignedAt w32 (payloadAt b place) 0)), result-is b place i h)
 
+  ring-by : (j place : ℕ) (i : Instruction) → InstructionAt b place i → Fine (at place (instruction (c .frame) j (c .condition (i .result)) i)) → ringBy c j (payloadAt b place) ≡ scratchAfter j i
+  unfolding ringBy instruction scratchAfter
+  ring-by j place i h f =
+      rw (instruction-by j place i h, scratch-is b place i h j)
+      (ring-after (c .frame) j (c .condition (i .result)) (i .result) place (i .opcode) (listOf (i .operands)) f)
+
   module _ (end : ℕ) where
     chain-ops : (j : ℕ) {first : ℕ} {is : List PlacedInstruction} → Chain b end first is → Fine (instructions c j is) → ops (instructions c j is) ≡ opsAt c b j (places b first end)
     unfolding instructions ops opsAt
@@ -79,16 +87,17 @@ module _ (c : Context) (b : List ℕ) where
         let rest = chain-ops (scratchAfter j i) ch (w .second) in
         w .ops
         ∙ ap (λ (l : List Op). l ++ ops (instructions c (scratchAfter j i) is)) (ops-place first _ ∙ ap (λ (x : Lowered). ops (at 0 x)) (sym (instruction-by j first i h)))
-        ∙ ap (λ (l : List Op). ops (at 0 (instructionBy c j (payloadAt b first))) ++ l) (rest ∙ ap (λ (k : ℕ). opsAt c b k (places b (nextAt b first) end)) (sym (scratch-is b first i h j)))
+        ∙ ap (λ (l : List Op). ops (at 0 (instructionBy c j (payloadAt b first))) ++ l) (rest ∙ ap (λ (k : ℕ). opsAt c b k (places b (nextAt b first) end)) (sym (ring-by j first i h (w .first))))
         ∙ ap (opsAt c b j) (sym (places-first b end first l))
 
-    chain-ring : (j : ℕ) {first : ℕ} {is : List PlacedInstruction} → Chain b end first is → scratchThrough j is ≡ ringAt b j (places b first end)
-    unfolding scratchThrough ringAt
-    chain-ring j Chain.done = ap (ringAt b j) (sym (places-none b end end (omega arith)))
-    chain-ring j (Chain.next {at = first} {i = i} {is = is} h l ch) =
-        chain-ring (scratchAfter j i) ch
-        ∙ ap (λ (k : ℕ). ringAt b k (places b (nextAt b first) end)) (sym (scratch-is b first i h j))
-        ∙ ap (ringAt b j) (sym (places-first b end first l))
+    chain-ring : (j : ℕ) {first : ℕ} {is : List PlacedInstruction} → Chain b end first is → Fine (instructions c j is) → scratchThrough j is ≡ ringAt c b j (places b first end)
+    unfolding scratchThrough instructions ringAt
+    chain-ring j Chain.done f = ap (ringAt c b j) (sym (places-none b end end (omega arith)))
+    chain-ring j (Chain.next {at = first} {i = i} {is = is} h l ch) f =
+        let w = both-fine _ _ f in
+        chain-ring (scratchAfter j i) ch (w .second)
+        ∙ ap (λ (k : ℕ). ringAt c b k (places b (nextAt b first) end)) (sym (ring-by j first i h (w .first)))
+        ∙ ap (ringAt c b j) (sym (places-first b end first l))
 
   -- ---- a block that stands there
 
@@ -110,7 +119,7 @@ module _ (c : Context) (b : List ℕ) where
         ∙ ap (λ (l : List Op). opsAt c b j (places b (place + 8) (d .ending)) ++ l) (sym (end-ops true))
     block-ops false f = ap (λ (l : List Op). [] ++ l) (sym (end-ops false))
 
-    pub block-ring : (t : Bool) → scratchBy t j d ≡ blockRing b t j (place + 8) (d .ending)
-    unfolding scratchBy blockRing
-    block-ring true = chain-ring (d .ending) j (h .chain)
-    block-ring false = refl
+    pub block-ring : (t : Bool) → Fine (blockBy c t j d) → scratchBy t j d ≡ blockRing c b t j (place + 8) (d .ending)
+    unfolding scratchBy blockBy block blockRing
+    block-ring true f = chain-ring (d .ending) j (h .chain) (both-fine _ _ f .first)
+    block-ring false f = refl

@@ -42,6 +42,7 @@ use Rattle.layout.specs.Layout.{Laid, laid, refusedAt, Context, at, _then_, ins
 use Rattle.layout.specs.Inner.{blockBy, mapsOf}
 use Rattle.layout.proofs.Laid.{slots-append}
 use Rattle.layout.proofs.Tidy.{Tidy}
+use Rattle.survey.proofs.Standing.{Chain, First, chain-within, chain-empty, chain-first, chain-same}
 use Rattle.passes.specs.Inner.{conditionIn}
 use Rattle.passes.specs.Places.{payloadAt}
 use Rattle.passes.specs.Tables.{sizeOf, sizeBy, sizeOn, relocsBy, loadSize, Sized}
@@ -50,7 +51,6 @@ use Rattle.passes.specs.declared.Size.the-variants as S
 use Rattle.passes.proofs.Celled.{RowCelled, EndCelled, BlockCelled, first-celled, others-celled}
 use Rattle.passes.proofs.Payload.{terminator-drop, result-is, operands-are, instruction-is, same-opcode, tidy-payload}
 use Rattle.passes.proofs.Plain.{plain-slots, plain-maps, plain-map, maps-append}
-use Rattle.passes.proofs.Standing.{Chain, First, chain-within, chain-empty, chain-first, chain-same}
 
 -- ---- what one record takes
 

@@ -20,10 +20,10 @@ use Rattle.survey.specs.Surveyed as survey
 use Rattle.survey.specs.Surveyed.{blocksOf}
 use Rattle.survey.proofs.Bounds.{blocks-count}
 use Rattle.survey.proofs.Flat.{endings-count}
+use Rattle.survey.proofs.Standing.{BlockAt, Standing, standing, standing-head, standing-tail}
 use Rattle.lower.specs.Op.{Op, plain, Lowered, slotsOf, insn}
 use Rattle.lower.specs.Operand.{move}
 use Rattle.lower.specs.Held.{endingOps}
-use Rattle.lower.specs.Payload.{scratchIn}
 use Rattle.lower.specs.Terminator.{terminator}
 use Rattle.lower.specs.declared.Ending.{Ending}
 use Rattle.layout.specs.Layout.{Context, Laid, at, blocks, unitOps, ops, slots, instructions, block}
@@ -33,7 +33,7 @@ use Rattle.layout.specs.Inner.{keepBy, blockBy, scratchBy, mapsOf}
 use Rattle.layout.proofs.Laid.{Fine, fine-laid, Both, both-fine, slots-append}
 use Rattle.layout.proofs.Written.{insns-append, insns-count, relocations-append, relocations-count}
 use Rattle.passes.specs.Notes.{firstTarget, pairsOf, EndsAt}
-use Rattle.passes.specs.Places.{payloadAt, instructionBy, places, opsAt, ringAt, endSlot, endOps, blockOps, blockRing}
+use Rattle.passes.specs.Places.{payloadAt, instructionBy, places, ringBy, opsAt, ringAt, endSlot, endOps, blockOps, blockRing}
 use Rattle.passes.specs.Tables.{Tables, Room, unitLanding}
 use Rattle.passes.specs.Put.{slotTo, firstInsn, insnsTo, reaches, RoomAt, Puts, Written}
 use Rattle.passes.proofs.Kept.{jumpsOf, fine-both, ops-both, jumps-both}
@@ -41,7 +41,6 @@ use Rattle.passes.proofs.Lists.{sets-append}
 use Rattle.passes.proofs.Places.{places-first, places-none, end-ops, instructions-ops, block-ops, block-ring}
 use Rattle.passes.proofs.Plain.{maps-append}
 use Rattle.passes.proofs.Put.{joined}
-use Rattle.passes.proofs.Standing.{BlockAt, Standing, standing, standing-head, standing-tail}
 use Rattle.passes.proofs.Targets.{landing-append, Leads, written-terminator, leads}
 
 -- ---- operations after operations
@@ -95,9 +94,9 @@ module _ (xs : List Start) where
 pub record Putting (c : Context) (b : List ℕ) (end : ℕ) (all : List Op) (ring s₀ t₀ : ℕ) (cs₀ rs₀ : List ℕ) (first j s t : ℕ) (cs rs : List ℕ) : Type 0 where
   pub room : RoomAt (opsAt c b j (places b first end)) s t (length cs) (length rs)
   pub whole : (xs : List Start) {s′ t′ : ℕ} {cs′ rs′ : List ℕ} → Puts (insns xs) (opsAt c b j (places b first end)) s t cs rs s′ t′ cs′ rs′ → Puts (insns xs) all s₀ t₀ cs₀ rs₀ s′ t′ cs′ rs′
-  pub ring-is : ringAt b j (places b first end) ≡ ring
+  pub ring-is : ringAt c b j (places b first end) ≡ ring
 
-pub putting : {c : Context} {b : List ℕ} {first end j s t : ℕ} {cs rs : List ℕ} → RoomAt (opsAt c b j (places b first end)) s t (length cs) (length rs) → Putting c b end (opsAt c b j (places b first end)) (ringAt b j (places b first end)) s t cs rs first j s t cs rs
+pub putting : {c : Context} {b : List ℕ} {first end j s t : ℕ} {cs rs : List ℕ} → RoomAt (opsAt c b j (places b first end)) s t (length cs) (length rs) → Putting c b end (opsAt c b j (places b first end)) (ringAt c b j (places b first end)) s t cs rs first j s t cs rs
 putting r = record { room = r; whole = λ xs p. p; ring-is = refl }
 
 module _ {c : Context} {b : List ℕ} {end : ℕ} {all : List Op} {ring s₀ t₀ : ℕ} {cs₀ rs₀ : List ℕ} {first j s t : ℕ} {cs rs : List ℕ} (w : Putting c b end all ring s₀ t₀ cs₀ rs₀ first j s t cs rs) where
@@ -105,7 +104,7 @@ module _ {c : Context} {b : List ℕ} {end : ℕ} {all : List Op} {ring s₀ t�
   here = ops (at 0 (instructionBy c j (payloadAt b first)))
 
   abbrev after : List Op
-  after = opsAt c b (scratchIn j (payloadAt b first)) (places b (nextAt b first) end)
+  after = opsAt c b (ringBy c j (payloadAt b first)) (places b (nextAt b first) end)
 
   module _ (l : first < end) where
     ops-first : opsAt c b j (places b first end) ≡ here ++ after
@@ -118,14 +117,14 @@ module _ {c : Context} {b : List ℕ} {end : ℕ} {all : List Op} {ring s₀ t�
     pub room-instruction : RoomAt here s t (length cs) (length rs)
     room-instruction = room-here s here after t room-first
 
-    pub on-instruction : {s′ t′ j′ first′ : ℕ} {cs′ rs′ : List ℕ} → ((xs : List Start) → Puts (insns xs) here s t cs rs s′ t′ cs′ rs′) → j′ ≡ scratchIn j (payloadAt b first) → first′ ≡ nextAt b first → Putting c b end all ring s₀ t₀ cs₀ rs₀ first′ j′ s′ t′ cs′ rs′
+    pub on-instruction : {s′ t′ j′ first′ : ℕ} {cs′ rs′ : List ℕ} → ((xs : List Start) → Puts (insns xs) here s t cs rs s′ t′ cs′ rs′) → j′ ≡ ringBy c j (payloadAt b first) → first′ ≡ nextAt b first → Putting c b end all ring s₀ t₀ cs₀ rs₀ first′ j′ s′ t′ cs′ rs′
     unfolding ringAt
     on-instruction p e f =
         rw (e, f)
         (record {
           room = room-next here after (p []) room-first;
           whole = λ xs q. w .whole xs (puts-same ops-first (puts-append xs here after (p xs) q));
-          ring-is = ap (ringAt b j) (sym (places-first b end first l)) ∙ w .ring-is;
+          ring-is = ap (ringAt c b j) (sym (places-first b end first l)) ∙ w .ring-is;
         })
 
   module _ (l : end ≤ first) where
@@ -135,7 +134,7 @@ module _ {c : Context} {b : List ℕ} {end : ℕ} {all : List Op} {ring s₀ t�
 
     pub ring-done : j ≡ ring
     unfolding ringAt
-    ring-done = ap (ringAt b j) (sym (places-none b end first l)) ∙ w .ring-is
+    ring-done = ap (ringAt c b j) (sym (places-none b end first l)) ∙ w .ring-is
 
 -- ---- a block
 
@@ -153,7 +152,7 @@ module _ (c : Context) (b : List ℕ) (j first end : ℕ) where
     unfolding blockOps endOps
     puts-silent xs s t cs rs = rw off (puts-nothing xs s t cs rs)
 
-    pub ring-silent : j ≡ blockRing b flag j first end
+    pub ring-silent : j ≡ blockRing c b flag j first end
     unfolding blockRing
     ring-silent = rw off
 
@@ -166,7 +165,7 @@ module _ (c : Context) (b : List ℕ) (j first end : ℕ) where
     pub room-body : {s t n m : ℕ} → RoomAt (blockOps c b flag j first end) s t n m → RoomAt body s t n m
     room-body {s} {t} {n} {m} r = room-here s body (endOps c b flag end) t (subst (λ (l : List Op). RoomAt l s t n m) ops-parts r)
 
-    pub ring-body : {k : ℕ} → k ≡ ringAt b j (places b first end) → k ≡ blockRing b flag j first end
+    pub ring-body : {k : ℕ} → k ≡ ringAt c b j (places b first end) → k ≡ blockRing c b flag j first end
     unfolding blockRing
     ring-body e = rw on e
 
@@ -255,10 +254,10 @@ module _ {b es : List ℕ} {c : Context} {e : ℕ → Bool} {xs : List Start} {e
   pub written : Written xs (slotTo edges numbers (2 * k)) (slotTo edges numbers (2 * k + 1)) (endSlot c b j (place + 8) (getD es k 0) s) (endOps c b (e k) (getD es k 0))
   written = rw ending (written-by (e k) (parts .first) (land-both .0))
 
-  pub on-block : {s′ t′ j′ place′ : ℕ} {cs′ rs′ : List ℕ} → Puts (insns xs) block-here s t cs rs s′ t′ cs′ rs′ → j′ ≡ blockRing b (e k) j (place + 8) (getD es k 0) → place′ ≡ nextAt b (getD es k 0) → Writing b es c e xs edges numbers all cs₀ rs₀ (suc k) place′ j′ s′ t′ cs′ rs′ ds
+  pub on-block : {s′ t′ j′ place′ : ℕ} {cs′ rs′ : List ℕ} → Puts (insns xs) block-here s t cs rs s′ t′ cs′ rs′ → j′ ≡ blockRing c b (e k) j (place + 8) (getD es k 0) → place′ ≡ nextAt b (getD es k 0) → Writing b es c e xs edges numbers all cs₀ rs₀ (suc k) place′ j′ s′ t′ cs′ rs′ ds
   unfolding survey.endings pairsOf slots
   on-block {s′} {t′} {cs′ = cs′} {rs′} p f g =
-      let ring = f ∙ ap (blockRing b (e k) j (place + 8)) ending ∙ sym (block-ring c b j place d stands-here (e k)) in
+      let ring = f ∙ ap (blockRing c b (e k) j (place + 8)) ending ∙ sym (block-ring c b j place d stands-here (e k) (parts .first)) in
       let slot : s + slotsOf (ops (blockBy c (e k) j d)) ≡ s′ = ap (λ (l : List Op). s + slotsOf l) block-is ∙ sym (p .slot) in
       rw (ring, g, ending)
       (record {
@@ -299,7 +298,7 @@ module _ {b es : List ℕ} {c : Context} {e : ℕ → Bool} {xs : List Start} {e
   pub next : Left b es c e xs edges numbers all cs₀ rs₀ n k place j s t cs rs → k < n → Next b es c e xs edges numbers all cs₀ rs₀ n k place j s t cs rs
   next x l = next-by (x .left) (x .count) (x .writing) l
 
-  pub passed : (x : Next b es c e xs edges numbers all cs₀ rs₀ n k place j s t cs rs) {s′ t′ j′ place′ : ℕ} {cs′ rs′ : List ℕ} → Puts (insns xs) (blockOps c b (e k) j (place + 8) (getD es k 0)) s t cs rs s′ t′ cs′ rs′ → j′ ≡ blockRing b (e k) j (place + 8) (getD es k 0) → place′ ≡ nextAt b (getD es k 0) → Left b es c e xs edges numbers all cs₀ rs₀ n (k + 1) place′ j′ s′ t′ cs′ rs′
+  pub passed : (x : Next b es c e xs edges numbers all cs₀ rs₀ n k place j s t cs rs) {s′ t′ j′ place′ : ℕ} {cs′ rs′ : List ℕ} → Puts (insns xs) (blockOps c b (e k) j (place + 8) (getD es k 0)) s t cs rs s′ t′ cs′ rs′ → j′ ≡ blockRing c b (e k) j (place + 8) (getD es k 0) → place′ ≡ nextAt b (getD es k 0) → Left b es c e xs edges numbers all cs₀ rs₀ n (k + 1) place′ j′ s′ t′ cs′ rs′
   passed x p f g = record { left = x .others; count = x .count; writing = rw (add-one k) (on-block (x .writing) p f g) }
 
   pub done : Left b es c e xs edges numbers all cs₀ rs₀ n k place j s t cs rs → n ≤ k → Puts (insns xs) all 1 0 cs₀ rs₀ s t cs rs

@@ -10,8 +10,11 @@ use Rattle.wire.specs.Pick.{pick}
 use Rattle.record.specs.Frame.{nextAt}
 use Rattle.peek.specs.Terminator.{terminatorIn}
 use Rattle.lower.specs.Op.{Op, Lowered, slotsOf}
+use Rattle.lower.specs.Held.{held}
 use Rattle.lower.specs.Payload.{instructionIn, scratchIn}
 use Rattle.lower.specs.Terminator.{terminator}
+use Rattle.lower.specs.declared.MapUse.{MapUse}
+use Rattle.lower.specs.declared.MapUse.the-variants as M
 use Rattle.layout.specs.Layout.{Context, at, ops}
 
 -- the payload of the record at a place, and what stands after it
@@ -30,14 +33,22 @@ placesIn b end (suc n) first = pick (ltb first end) (first ∷ placesIn b end n 
 unfoldable pub places : List ℕ → ℕ → ℕ → List ℕ
 places b first end = placesIn b end (end - first) first
 
+-- the scratch position after it, if it is not refused: only an instruction that loads a map's address takes cells of the ring
+unfoldable pub ringOn : MapUse → ℕ → ℕ → ℕ
+ringOn M.Nothing j after = j
+ringOn (M.Map m) j after = after
+
+unfoldable pub ringBy : Context → ℕ → List ℕ → ℕ
+ringBy c j p = ringOn (held (instructionBy c j p) .map) j (scratchIn j p)
+
 -- what the instructions at some places become, from scratch j on, and the scratch position after them
 unfoldable pub opsAt : Context → List ℕ → ℕ → List ℕ → List Op
 opsAt c b j [] = []
-opsAt c b j (p ∷ ps) = ops (at 0 (instructionBy c j (payloadAt b p))) ++ opsAt c b (scratchIn j (payloadAt b p)) ps
+opsAt c b j (p ∷ ps) = ops (at 0 (instructionBy c j (payloadAt b p))) ++ opsAt c b (ringBy c j (payloadAt b p)) ps
 
-unfoldable pub ringAt : List ℕ → ℕ → List ℕ → ℕ
-ringAt b j [] = j
-ringAt b j (p ∷ ps) = ringAt b (scratchIn j (payloadAt b p)) ps
+unfoldable pub ringAt : Context → List ℕ → ℕ → List ℕ → ℕ
+ringAt c b j [] = j
+ringAt c b j (p ∷ ps) = ringAt c b (ringBy c j (payloadAt b p)) ps
 
 -- the slot of the terminator after the instructions from a byte to the byte end, the first of which is at slot s
 unfoldable pub endSlot : Context → List ℕ → ℕ → ℕ → ℕ → ℕ → ℕ
@@ -50,5 +61,5 @@ endOps c b t end = pick t (ops (at 0 (terminator (c .frame) (terminatorIn b (end
 unfoldable pub blockOps : Context → List ℕ → Bool → ℕ → ℕ → ℕ → List Op
 blockOps c b t j first end = pick t (opsAt c b j (places b first end)) [] ++ endOps c b t end
 
-unfoldable pub blockRing : List ℕ → Bool → ℕ → ℕ → ℕ → ℕ
-blockRing b t j first end = pick t (ringAt b j (places b first end)) j
+unfoldable pub blockRing : Context → List ℕ → Bool → ℕ → ℕ → ℕ → ℕ
+blockRing c b t j first end = pick t (ringAt c b j (places b first end)) j

@@ -1,2 +1,1 @@
-pub mod Peek
 pub mod Terminator

@@ -97,14 +97,13 @@ pub record OneAnswer : Type 0 where
   pub record-read-record : DecidesAnswer reader.read_record.Reads.Post
   pub record-whole : DecidesAnswer reader.whole.Reads.Post
   pub record-kind : DecidesAnswer reader.kind.Reads.Post
-  pub record-kind-due : DecidesAnswer reader.kind_due.Reads.Post
   pub record-not-due : DecidesAnswer reader.not_due.Reads.Post
-  pub record-broken : DecidesAnswer reader.broken.Reads.Post
-  pub record-head-at : DecidesAnswer reader.payload.head_at.Reads.Post
   pub record-head-ok : DecidesAnswer reader.payload.head_ok.Reads.Post
   pub record-sized : DecidesAnswer reader.instruction.sized.Reads.Post
   pub record-fields-at : DecidesAnswer reader.instruction.fields_at.Reads.Post
-  pub recordcheck-check-record : DecidesAnswer recordcheck.check_record.Reads.Post
+  pub recordcheck-check-map : DecidesAnswer recordcheck.check_map.Reads.Post
+  pub recordcheck-check-block : DecidesAnswer recordcheck.check_block.Reads.Post
+  pub recordcheck-check-inside : DecidesAnswer recordcheck.check_inside.Reads.Post
   pub payloadwriter-put-instruction : Decides payloadwriter.put_instruction.Reads.Post (λ κ r (b, _). now b)
   pub payloadwriter-terminator-size : DecidesAnswer payloadwriter.terminator_size.Reads.Post
   pub payloadwriter-put-terminator : Decides payloadwriter.put_terminator.Reads.Post (λ κ r (b, _). now b)
@@ -113,13 +112,11 @@ pub record OneAnswer : Type 0 where
   pub opening-head-at : DecidesAnswer opening.head_at.Reads.Post
   pub opening-map-from : DecidesAnswer opening.map_from.Reads.Post
   pub opening-open-unit : DecidesAnswer opening.open_unit.Reads.Post
-  pub unitfile-after : DecidesAnswer unitfile.after.Reads.Post
   pub unitfile-next-record : DecidesAnswer unitfile.next_record.Reads.Post
   pub unitfile-read-unit : DecidesAnswer unitfile.read_unit.Reads.Post
   pub unitfile-map-place : DecidesAnswer unitfile.map_place.Reads.Post
   pub unitfile-map-name : Decides unitfile.map_name.Reads.Post (λ κ r s. now r)
   pub unitfile-map-named : DecidesAnswer unitfile.map_named.Reads.Post
-  pub peek-peek : DecidesAnswer peek.peek.Reads.Post
   pub peek-terminator-in : DecidesAnswer peek.terminator.terminator_in.Reads.Post
   pub frame-scratch : DecidesAnswer frame.scratch.Reads.Post
   pub frame-index-at : DecidesAnswer frame.hint.index_at.Reads.Post

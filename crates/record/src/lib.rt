@@ -112,7 +112,7 @@ pub fn kind(value: Record) -> u16
 }
 
 // Whether the kind is the one due.
-pub fn kind_due(due: Due, kind: u16) -> bool
+fn kind_due(due: Due, kind: u16) -> bool
     ensures { λ r. ⌜ r ≡ kindDue due kind ⌝ }
 {
     match due {
@@ -140,7 +140,7 @@ pub fn not_due(due: Due, at: usize) -> Fault
     }
 }
 
-pub fn broken(due: Due, at: usize) -> Fault
+fn broken(due: Due, at: usize) -> Fault
     ensures { λ r. ⌜ r ≡ broken due at ⌝ }
 {
     match due {

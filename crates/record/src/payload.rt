@@ -28,7 +28,7 @@ pub fn head_ok(h: Head) -> bool
 }
 
 // A head's numbers; zeros where it does not lie in the bytes.
-pub fn head_at(s: &[u8], at: usize) -> Head
+fn head_at(s: &[u8], at: usize) -> Head
     ensures { λ r. ⌜ r ≡ headIn (now (s .entry)) at ⌝ }
 {
     if wire::lies(at, 8, s.len()) {

@@ -1,7 +1,6 @@
--- What a payload's test says: it is the test of its parts, and a good payload's record has the kind that was found.
-use mathlib.Core.Path.{_≡_, refl, ap}
+-- What a payload's test says: it is the test of its parts, and by it the record inside a block goes on or is broken.
+use mathlib.Core.Path.{_≡_, refl}
 use mathlib.Core.Bool.{Bool, true, false}
-use mathlib.Core.List.{List}
 use Prim.Native.Nat.{ℕ}
 use native.Mathlib.Omega.{arith}
 use Rattle.wire.specs.Pick.{pick, both}
@@ -16,18 +15,15 @@ use Rattle.operand.specs.declared.ReadOperands.{ReadOperands}
 use Rattle.operand.specs.declared.ReadOperands.the-variants as L
 use Rattle.record.specs.Instruction.{joined}
 use Rattle.record.specs.Terminator.{returning, branching}
-use Rattle.record.specs.Payload.{ofInstruction, ofTerminator, payloadAt}
+use Rattle.record.specs.Payload.{ofInstruction, ofTerminator, kindOf}
 use Rattle.record.specs.Record.{broken, onPayload}
-use Rattle.record.specs.declared.Record.{Record}
-use Rattle.record.specs.declared.Due.{Due}
+use Rattle.record.specs.declared.Due.the-variants as Du
+use Rattle.record.specs.declared.Fault.the-variants.{Broken}
 use Rattle.record.specs.declared.instruction.ReadInstruction.{ReadInstruction}
 use Rattle.record.specs.declared.instruction.ReadInstruction.the-variants as I
 use Rattle.record.specs.declared.terminator.ReadTerminator.{ReadTerminator}
 use Rattle.record.specs.declared.terminator.ReadTerminator.the-variants as T
-use Rattle.record.specs.declared.payload.Payload.{Payload}
-use Rattle.record.specs.declared.payload.Payload.the-variants as P
-use Rattle.record.proofs.OfKind.{kind-of}
-use Rattle.recordcheck.specs.Checked.{isInstruction, isTerminator, isPayload, checkedOf}
+use Rattle.recordcheck.specs.Checked.{isInstruction, isTerminator, checkedOf}
 use Rattle.recordcheck.specs.declared.Checked.the-variants as Ch
 
 -- ---- the parts
@@ -54,36 +50,25 @@ unfolding isTerminator
 ok-jumping true u = refl
 ok-jumping false u = refl
 
-pub ok-instruction : (x : ReadInstruction) → isPayload (ofInstruction x) ≡ isInstruction x
-unfolding isPayload ofInstruction isInstruction
-ok-instruction (I.Is i) = refl
-ok-instruction I.Broken = refl
+-- ---- a record inside a block
 
-pub ok-terminator : (x : ReadTerminator) → isPayload (ofTerminator x) ≡ isTerminator x
-unfolding isPayload ofTerminator isTerminator
-ok-terminator (T.Is t) = refl
-ok-terminator T.Broken = refl
+module _ (at next : ℕ) where
+  pub good-instruction : (x : ReadInstruction) → isInstruction x ≡ true → checkedOf (onPayload Du.Inside at next (ofInstruction x)) ≡ Ch.Next 4 next
+  unfolding isInstruction ofInstruction onPayload checkedOf kindOf
+  good-instruction (I.Is i) h = refl
+  good-instruction I.Broken h = let z : _≡_ {A = ℕ} 0 1 = cc in absurd (omega arith)
 
-pub ok-picked : (t : Bool) (r : Record) → isPayload (pick t (P.Is r) P.Broken) ≡ t
-unfolding isPayload
-ok-picked true r = refl
-ok-picked false r = refl
+  pub broken-instruction : (x : ReadInstruction) → isInstruction x ≡ false → checkedOf (onPayload Du.Inside at next (ofInstruction x)) ≡ Ch.Refused (Broken at)
+  unfolding isInstruction ofInstruction onPayload checkedOf broken
+  broken-instruction (I.Is i) h = let z : _≡_ {A = ℕ} 0 1 = cc in absurd (omega arith)
+  broken-instruction I.Broken h = refl
 
--- ---- the record
+  pub good-terminator : (x : ReadTerminator) → isTerminator x ≡ true → checkedOf (onPayload Du.Inside at next (ofTerminator x)) ≡ Ch.Next 5 next
+  unfolding isTerminator ofTerminator onPayload checkedOf kindOf
+  good-terminator (T.Is t) h = refl
+  good-terminator T.Broken h = let z : _≡_ {A = ℕ} 0 1 = cc in absurd (omega arith)
 
-module _ (kind : ℕ) (b : List ℕ) (start len maps : ℕ) (due : Due) (at next : ℕ) where
-  good-by : (p : Payload) → payloadAt kind b start len maps ≡ p → isPayload p ≡ true → checkedOf (onPayload due at next p) ≡ Ch.Next kind next
-  unfolding isPayload checkedOf onPayload
-  good-by (P.Is r) e h = ap (λ (k : ℕ). Ch.Next k next) (kind-of kind b start len maps r e)
-  good-by P.Broken e h = let z : _≡_ {A = ℕ} 0 1 = cc in absurd (omega arith)
-
-  pub checked-good : isPayload (payloadAt kind b start len maps) ≡ true → checkedOf (onPayload due at next (payloadAt kind b start len maps)) ≡ Ch.Next kind next
-  checked-good h = good-by _ refl h
-
-  broken-by : (p : Payload) → isPayload p ≡ false → checkedOf (onPayload due at next p) ≡ Ch.Refused (broken due at)
-  unfolding isPayload checkedOf onPayload
-  broken-by (P.Is r) h = let z : _≡_ {A = ℕ} 0 1 = cc in absurd (omega arith)
-  broken-by P.Broken h = refl
-
-  pub checked-broken : isPayload (payloadAt kind b start len maps) ≡ false → checkedOf (onPayload due at next (payloadAt kind b start len maps)) ≡ Ch.Refused (broken due at)
-  checked-broken h = broken-by _ h
+  pub broken-terminator : (x : ReadTerminator) → isTerminator x ≡ false → checkedOf (onPayload Du.Inside at next (ofTerminator x)) ≡ Ch.Refused (Broken at)
+  unfolding isTerminator ofTerminator onPayload checkedOf broken
+  broken-terminator (T.Is t) h = let z : _≡_ {A = ℕ} 0 1 = cc in absurd (omega arith)
+  broken-terminator T.Broken h = refl

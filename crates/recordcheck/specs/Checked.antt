@@ -7,8 +7,6 @@ use Rattle.record.specs.declared.instruction.ReadInstruction.{ReadInstruction}
 use Rattle.record.specs.declared.instruction.ReadInstruction.the-variants as I
 use Rattle.record.specs.declared.terminator.ReadTerminator.{ReadTerminator}
 use Rattle.record.specs.declared.terminator.ReadTerminator.the-variants as T
-use Rattle.record.specs.declared.payload.Payload.{Payload}
-use Rattle.record.specs.declared.payload.Payload.the-variants as P
 use Rattle.recordcheck.specs.declared.Checked.{Checked}
 use Rattle.recordcheck.specs.declared.Checked.the-variants as Ch
 
@@ -21,11 +19,6 @@ isInstruction I.Broken = false
 unfoldable pub isTerminator : ReadTerminator → Bool
 isTerminator (T.Is t) = true
 isTerminator T.Broken = false
-
--- the payload obeys the rules of its kind
-unfoldable pub isPayload : Payload → Bool
-isPayload (P.Is r) = true
-isPayload P.Broken = false
 
 -- the kind of the record that is due and the byte after it, or the refusal
 unfoldable pub checkedOf : Read → Checked

@@ -1,16 +1,14 @@
-// A record of the unit file, checked with no value made of it.
+// A record of the unit file, checked with no value made of it: one function for each place that a record can be due at.
 mod instruction;
 mod terminator;
 
 use record::Due;
 use record::Fault;
-use record::payload;
 ghost use mathlib.Core.Path.{_≡_};
-ghost use Prim.Native.Nat.{_+_, _≤_};
-ghost use lib.ListN.{length};
-ghost use Rattle.record.specs.Payload.{payloadAt};
+ghost use Prim.Native.Nat.{ℕ};
 ghost use Rattle.record.specs.Record.{readRecord};
-ghost use Rattle.recordcheck.specs.Checked.{isPayload, checkedOf};
+ghost use Rattle.record.specs.declared.Due.the-variants as Du;
+ghost use Rattle.recordcheck.specs.Checked.{checkedOf};
 
 // A record's kind and the byte after it, or the refusal.
 pub enum Checked {
@@ -18,40 +16,60 @@ pub enum Checked {
     Refused(Fault),
 }
 
-// Whether the payload of len bytes at a byte obeys the rules of its kind, in a unit of so many maps.
-fn payload_ok(s: &[u8], kind: u16, at: usize, len: usize, maps: u16) -> bool
-    requires { ⌜ at + len ≤ length (now s) ⌝ }
-    ensures { λ r. ⌜ r ≡ isPayload (payloadAt kind (now (s .entry)) at len maps) ⌝ }
+// The answer of `read_record` but for the value, where a map is due. How many maps the unit has is nothing to it.
+pub fn check_map(s: &[u8], at: usize) -> Checked
+    ensures { λ r. ⌜ ((maps : ℕ) → r ≡ checkedOf (readRecord (now (s .entry)) at Du.Map maps)) ⌝ }
 {
-    match kind {
-        1 => {
-            if len == 8 {
-                return payload::head_ok(payload::head_at(s, at));
+    let len = wire::get_u16(s, at) as usize;
+    if record::whole(s.len(), at, len) {
+        if wire::get_u16(s, at + 2) == 2 {
+            if len <= 64 {
+                return Checked::Next(2, at + 4 + len);
             }
-            false
+            return Checked::Refused(Fault::Broken(at));
         }
-        2 => len <= 64,
-        3 => len == 4,
-        4 => instruction::instruction_ok(s, at, len, maps),
-        5 => terminator::terminator_ok(s, at, len),
-        _ => false,
+        return Checked::Refused(record::not_due(Due::Map, at));
     }
+    Checked::Refused(Fault::Cut(at))
 }
 
-// The answer of `read_record` but for the value.
-pub fn check_record(s: &[u8], at: usize, due: Due, maps: u16) -> Checked
-    ensures { λ r. ⌜ r ≡ checkedOf (readRecord (now (s .entry)) at due maps) ⌝ }
+// The same where a block is due.
+pub fn check_block(s: &[u8], at: usize) -> Checked
+    ensures { λ r. ⌜ ((maps : ℕ) → r ≡ checkedOf (readRecord (now (s .entry)) at Du.Block maps)) ⌝ }
+{
+    let len = wire::get_u16(s, at) as usize;
+    if record::whole(s.len(), at, len) {
+        if wire::get_u16(s, at + 2) == 3 {
+            if len == 4 {
+                return Checked::Next(3, at + 8);
+            }
+            return Checked::Refused(Fault::Broken(at));
+        }
+        return Checked::Refused(record::not_due(Due::Block, at));
+    }
+    Checked::Refused(Fault::Cut(at))
+}
+
+// The same inside a block, where an instruction or a terminator is due, in a unit of so many maps.
+pub fn check_inside(s: &[u8], at: usize, maps: u16) -> Checked
+    ensures { λ r. ⌜ r ≡ checkedOf (readRecord (now (s .entry)) at Du.Inside maps) ⌝ }
 {
     let len = wire::get_u16(s, at) as usize;
     if record::whole(s.len(), at, len) {
         let kind = wire::get_u16(s, at + 2);
-        if record::kind_due(due, kind) {
-            if payload_ok(s, kind, at + 4, len, maps) {
-                return Checked::Next(kind, at + 4 + len);
+        if kind == 4 {
+            if instruction::instruction_ok(s, at + 4, len, maps) {
+                return Checked::Next(4, at + 4 + len);
             }
-            return Checked::Refused(record::broken(due, at));
+            return Checked::Refused(Fault::Broken(at));
         }
-        return Checked::Refused(record::not_due(due, at));
+        if kind == 5 {
+            if terminator::terminator_ok(s, at + 4, len) {
+                return Checked::Next(5, at + 4 + len);
+            }
+            return Checked::Refused(Fault::Broken(at));
+        }
+        return Checked::Refused(record::not_due(Due::Inside, at));
     }
     Checked::Refused(Fault::Cut(at))
 }

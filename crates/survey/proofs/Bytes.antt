@@ -1,7 +1,7 @@
--- What the bytes of a record bring, by its kind, is what its value brings.
-use mathlib.Core.Path.{_≡_, refl, sym, ap, _∙_}
+-- What the bytes of a record name is what its value names.
+use mathlib.Core.Path.{_≡_, refl, ap, subst}
 use mathlib.Core.Bool.{Bool, true, false}
-use mathlib.Core.List.{List, []}
+use mathlib.Core.List.{List, [], _++_}
 use Prim.Native.Nat.{ℕ, _+_}
 use native.Mathlib.Omega.{arith}
 use borrow.Author.Tests.{eqb-true}
@@ -10,21 +10,17 @@ use mir.Syntax.{w32}
 use Rattle.wire.specs.Pick.{pick}
 use Rattle.wire.specs.Le.{byteAt, unsignedAt}
 use Rattle.ir.specs.declared.Instruction.{Instruction}
-use Rattle.ir.specs.declared.Terminator.{Terminator}
 use Rattle.ir.specs.declared.Terminator.the-variants.{Return, Jump, Branch}
 use Rattle.operand.specs.Operand.{operandIn}
+use Rattle.record.specs.Frame.{kindAt}
 use Rattle.record.specs.Instruction.{countAt}
+use Rattle.unitfile.specs.Unit.{PlacedInstruction}
 use Rattle.peek.specs.Terminator.{terminatorIn}
-use Rattle.record.specs.Payload.{kindOf}
-use Rattle.record.specs.declared.Record.{Record}
-use Rattle.record.specs.declared.Record.the-variants as R
-use Rattle.unitfile.specs.Records.{nextRecord}
-use Rattle.unitfile.specs.declared.Cursor.{Cursor}
-use Rattle.unitfile.specs.declared.Step.the-variants.{Go}
-use Rattle.unitfile.proofs.Run.{goes}
-use Rattle.peek.proofs.Peeking.{InstructionAt, block-in, instruction-in, terminator-in}
-use Rattle.survey.specs.Occurrences.{ofOperand, ofInstruction, ofTerminator}
-use Rattle.survey.specs.Inner.{ofRecord, idAfter, atEnd, ofInstructionIn, ofTerminatorIn, ofRecordIn, idAfterIn, atEndIn}
+use Rattle.peek.proofs.Peeking.{InstructionAt}
+use Rattle.survey.specs.Occurrences.{Occurrence, ofOperand, ofInstruction, ofInstructions, ofTerminator}
+use Rattle.survey.specs.Inner.{ofInstructionIn, ofTerminatorIn, Names, done, next}
+use Rattle.survey.proofs.Standing as standing
+use Rattle.survey.proofs.Standing.{Chain}
 
 module _ (b : List ℕ) (place : ℕ) where
   instruction-names : (i : Instruction) → InstructionAt b place i → ofInstructionIn b place ≡ ofInstruction place i
@@ -33,7 +29,7 @@ module _ (b : List ℕ) (place : ℕ) where
       let count : place + 4 + 6 ≡ place + 10 = omega arith in
       rw (p .result, p .list, count)
 
-  terminator-names : ofTerminatorIn b place ≡ ofTerminator place (terminatorIn b (place + 4))
+  pub terminator-names : ofTerminatorIn b place ≡ ofTerminator place (terminatorIn b (place + 4))
   unfolding ofTerminatorIn ofTerminator terminatorIn
   terminator-names = go (eqb (byteAt b (place + 4)) 0) (eqb (byteAt b (place + 4)) 1) refl refl
     where
@@ -48,17 +44,9 @@ module _ (b : List ℕ) (place : ℕ) where
       go false true p q = refl
       go false false p q = same
 
--- the record r of a kind, at a place
-pub record Brings (b : List ℕ) (place kind : ℕ) (r : Record) : Type 0 where
-  pub occurrences : ofRecordIn b place kind ≡ ofRecord place r
-  pub id : (id : ℕ) → idAfterIn id b place kind ≡ idAfter id r
-  pub ends : (x : ℕ) → atEndIn x kind ≡ atEnd x r
-
-pub brings : (b : List ℕ) (maps : ℕ) (c d : Cursor) (r : Record) → nextRecord b maps c ≡ Go r d → Brings b (c .at) (kindOf r) r
-unfolding kindOf ofRecordIn idAfterIn atEndIn ofRecord idAfter atEnd
-brings b maps c d (R.Head h) e = absurd (goes b maps c (R.Head h) d e)
-brings b maps c d (R.Map start len) e = absurd (goes b maps c (R.Map start len) d e)
-brings b maps c d (R.Block id) e = record { occurrences = refl; id = λ x. sym (block-in b maps c d id e); ends = λ x. refl }
-brings b maps c d (R.Instruction i) e = record { occurrences = instruction-names b (c .at) i (instruction-in b maps c d i e); id = λ x. refl; ends = λ x. refl }
-brings b maps c d (R.Terminator t) e =
-    record { occurrences = terminator-names b (c .at) ∙ ap (ofTerminator (c .at)) (terminator-in b maps c d t e .value); id = λ x. refl; ends = λ x. refl }
+-- the instructions that stand from a byte to the byte end, where a terminator stands
+pub chain-names : {b : List ℕ} {end at : ℕ} {is : List PlacedInstruction} → kindAt b end ≡ 5 → Chain b end at is → Names b end at (ofInstructions is)
+unfolding ofInstructions
+chain-names t standing.done = done (λ e. omega arith)
+chain-names {b} {end} {at} t (standing.next {i = i} {is = is} h l c) =
+    subst (λ (os : List Occurrence). Names b end at (os ++ ofInstructions is)) (instruction-names b at i h) (next (h .kind) (chain-names t c))

@@ -1,7 +1,9 @@
 pub mod Tallies
 pub mod Flat
 pub mod Bounds
+pub mod Standing
 pub mod Bytes
+pub mod Through
 pub mod Left
 pub mod Answers
 pub mod Sorted

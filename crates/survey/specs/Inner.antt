@@ -1,20 +1,18 @@
 -- What the crate's own functions answer, while the pass goes on.
 use Prim.Native.Nat.{ℕ, _+_, _≤_}
 use mathlib.Core.Path.{_≡_}
-use mathlib.Core.List.{List, [], _∷_, _++_}
+use mathlib.Core.List.{List, [], _++_}
 use lib.Dec.{eqb, ltb}
 use lib.ListN.{length, take, drop}
-use lib.Seq.{sets}
 use mir.Syntax.{w32}
 use Rattle.wire.specs.Pick.{pick}
 use Rattle.wire.specs.Le.{byteAt, unsignedAt}
 use Rattle.ir.specs.declared.Operand.the-variants.{Var}
 use Rattle.operand.specs.Operand.{operandIn, operandsIn}
 use Rattle.frame.proofs.Sorted.{Sorted}
-use Rattle.record.specs.declared.Record.{Record}
-use Rattle.record.specs.declared.Record.the-variants as R
+use Rattle.record.specs.Frame.{kindAt, nextAt}
 use Rattle.unitfile.specs.declared.Found.{Found}
-use Rattle.survey.specs.Occurrences.{Occurrence, ofOperand, ofOperands, ofInstruction, ofTerminator}
+use Rattle.survey.specs.Occurrences.{Occurrence, ofOperand, ofOperands}
 use Rattle.survey.specs.Collected.{Collected, all, tooMany, collect}
 use Rattle.survey.specs.declared.Survey.{Survey}
 use Rattle.survey.specs.declared.Survey.the-variants as S
@@ -49,30 +47,7 @@ pub record Takes (t : Tally) (l : List ℕ) (os : List Occurrence) (r : Tally) (
 unfoldable pub tallied : Found → Tally → Survey
 tallied found t = pick (ltb 56 (t .count)) (S.TooMany (t .place)) (S.Unit found (t .count))
 
--- ---- what one record brings: variables, the id of a block that begins, and at a terminator the block's id and the place
-
-unfoldable pub ofRecord : ℕ → Record → List Occurrence
-ofRecord place (R.Head h) = []
-ofRecord place (R.Map start len) = []
-ofRecord place (R.Block id) = []
-ofRecord place (R.Instruction i) = ofInstruction place i
-ofRecord place (R.Terminator t) = ofTerminator place t
-
-unfoldable pub idAfter : ℕ → Record → ℕ
-idAfter id (R.Head h) = id
-idAfter id (R.Map start len) = id
-idAfter id (R.Block begun) = begun
-idAfter id (R.Instruction i) = id
-idAfter id (R.Terminator t) = id
-
-unfoldable pub atEnd : ℕ → Record → List ℕ
-atEnd x (R.Head h) = []
-atEnd x (R.Map start len) = []
-atEnd x (R.Block id) = []
-atEnd x (R.Instruction i) = []
-atEnd x (R.Terminator t) = x ∷ []
-
--- ---- the same by the bytes of a record, whose kind is known: 3 block, 4 instruction, 5 terminator
+-- ---- what the bytes of an instruction, and of a terminator, name
 
 unfoldable pub ofInstructionIn : List ℕ → ℕ → List Occurrence
 ofInstructionIn b place = ofOperand place (Var (unsignedAt w32 b (place + 4))) ++ ofOperands place (operandsIn b (place + 20) (byteAt b (place + 10)))
@@ -80,18 +55,14 @@ ofInstructionIn b place = ofOperand place (Var (unsignedAt w32 b (place + 4))) +
 unfoldable pub ofTerminatorIn : List ℕ → ℕ → List Occurrence
 ofTerminatorIn b place = pick (eqb (byteAt b (place + 4)) 1) [] (ofOperand place (operandIn b (place + 5)))
 
-unfoldable pub ofRecordIn : List ℕ → ℕ → ℕ → List Occurrence
-ofRecordIn b place kind = pick (eqb kind 3) [] (pick (eqb kind 4) (ofInstructionIn b place) (ofTerminatorIn b place))
+-- ---- the instructions of a block
 
-unfoldable pub idAfterIn : ℕ → List ℕ → ℕ → ℕ → ℕ
-idAfterIn id b place kind = pick (eqb kind 3) (unsignedAt w32 b (place + 4)) id
+-- the instructions from a byte on name os, and the first record of another kind than 4 stands at the byte end
+pub data Names (b : List ℕ) (end : ℕ) : ℕ → List Occurrence → Type 0 where
+  done : (kindAt b end ≡ 4 → ⊥) → Names b end end []
+  next : {at : ℕ} {os : List Occurrence} → kindAt b at ≡ 4 → Names b end (nextAt b at) os → Names b end at (ofInstructionIn b at ++ os)
 
-unfoldable pub atEndIn : ℕ → ℕ → List ℕ
-atEndIn x kind = pick (eqb kind 3) [] (pick (eqb kind 4) [] (x ∷ []))
-
-pub record Passes (b : List ℕ) (place kind : ℕ) (g : Going) (vs is es : List ℕ) (r : Going) (vs′ is′ es′ : List ℕ) : Type 0 where
-  pub takes : Takes (g .tally) vs (ofRecordIn b place kind) (r .tally) vs′
-  pub id : r .id ≡ idAfterIn (g .id) b place kind
-  pub block : r .block ≡ g .block + length (atEndIn place kind)
-  pub ids : is′ ≡ sets is (g .block) (atEndIn (g .id) kind)
-  pub endings : es′ ≡ sets es (g .block) (atEndIn place kind)
+-- what they name is put among the variables of the tally t and the list l, and g is where they end
+pub record Over (b : List ℕ) (first : ℕ) (t : Tally) (l : List ℕ) (g : Going) (m : List ℕ) : Type 0 where
+  pub takes : (end : ℕ) (os : List Occurrence) → Names b end first os → Takes t l os (g .tally) m
+  pub ends : (end : ℕ) (os : List Occurrence) → Names b end first os → g .at ≡ end

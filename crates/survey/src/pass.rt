@@ -1,24 +1,22 @@
-// The pass over the records of the blocks.
+// The pass over the blocks, one after the other.
 use crate::Survey;
 use crate::occurrences;
 use crate::occurrences::Tally;
 use record::Head;
-use unitfile::Cursor;
 use unitfile::Found;
 use unitfile::ReadUnit;
 ghost use mathlib.Core.Path.{_≡_};
-ghost use Prim.Native.Nat.{_+_, _≤_, _<_};
+ghost use Prim.Native.Nat.{_≤_};
 ghost use lib.ListN.{length, set};
 ghost use Rattle.unitfile.specs.Unit.{readUnit, parse};
 ghost use Rattle.survey.specs.Collected.{collected};
 ghost use Rattle.survey.specs.Surveyed.{blocksOf, counted, surveyedVariables, surveyedIds, surveyedEndings};
-ghost use Rattle.survey.specs.Inner.{Holds, atEndIn, Passes, tallied};
+ghost use Rattle.survey.specs.Inner.{Holds, Over, tallied};
 
-// Where the pass stands: the tally, how many blocks have ended, and the id of the block that has begun.
+// Where the pass stands after the instructions of a block: the tally, and the place of the terminator.
 pub struct Going {
     pub tally: Tally,
-    pub block: usize,
-    pub id: u32,
+    pub at: usize,
 }
 
 // What does not fit into a lent list is not written.
@@ -30,44 +28,27 @@ fn keep(list: &mut [u32], i: usize, x: u32)
     }
 }
 
-// A block record, kind 3, begins a block; an instruction, kind 4, names variables; a terminator ends the block.
-fn on_record(
+// The instructions from a byte on, kind 4 each; the record after them is the terminator of their block.
+fn over_instructions(
     s: &[u8],
     variables: &mut [u32; 56],
     hints: &mut [u8; 256],
-    ids: &mut [u32],
-    endings: &mut [u32],
-    g: Going,
-    place: usize,
-    kind: u16,
+    tally: Tally,
+    first: usize,
 ) -> Going
-    requires { ⌜ Holds (g .tally) (now variables) ⌝ }
-    requires { ⌜ (g .block + length (atEndIn place kind) ≤ 1024) × (place < 4294967296) ⌝ }
-    ensures { λ r. ⌜ Passes (now (s .entry)) place kind g (now (variables .entry)) (now (ids .entry)) (now (endings .entry)) r (now (variables .exit)) (now (ids .exit)) (now (endings .exit)) ⌝ }
+    requires { ⌜ Holds tally (now variables) ⌝ }
+    requires { ⌜ (first ≤ length (now s)) × (length (now s) ≤ 262144) ⌝ }
+    ensures { λ r. ⌜ Over (now (s .entry)) first tally (now (variables .entry)) r (now (variables .exit)) ⌝ }
 {
-    let tally = g.tally;
-    let block = g.block;
-    if kind == 3 {
-        return Going {
-            tally: tally,
-            block: block,
-            id: wire::get_u32(s, place + 4),
-        };
+    let mut counted = tally;
+    let mut at = first;
+    while wire::get_u16(s, at + 2) == 4 {
+        counted = occurrences::with_instruction(s, variables, hints, counted, at);
+        at = at + 4 + wire::get_u16(s, at) as usize;
     }
-    if kind == 4 {
-        return Going {
-            tally: occurrences::with_instruction(s, variables, hints, tally, place),
-            block: block,
-            id: g.id,
-        };
-    }
-    let counted = occurrences::with_terminator(s, variables, hints, tally, place);
-    keep(ids, block, g.id);
-    keep(endings, block, place as u32);
     Going {
         tally: counted,
-        block: block + 1,
-        id: g.id,
+        at: at,
     }
 }
 
@@ -80,7 +61,7 @@ fn answer(found: Found, tally: Tally) -> Survey
     Survey::Unit(found, tally.count)
 }
 
-// The blocks of a unit that was read whole.
+// The blocks of a unit that was read whole: 8 bytes of block record, the instructions, the terminator.
 pub(crate) fn survey_blocks(
     unit: &[u8],
     found: Found,
@@ -96,25 +77,19 @@ pub(crate) fn survey_blocks(
     ensures { λ _. ⌜ now (endings .exit) ≡ surveyedEndings (now (unit .entry)) (now (endings .entry)) ⌝ }
 {
     let head = found.head;
-    let mut c = Cursor {
-        at: found.body,
-        blocks: head.blocks,
-        inside: false,
-    };
-    let mut g = Going {
-        tally: Tally { count: 0, place: 0 },
-        block: 0,
-        id: 0,
-    };
+    let n = head.blocks as usize;
+    let mut at = found.body;
+    let mut tally = Tally { count: 0, place: 0 };
     let mut hints = [0u8; 256];
-    loop {
-        let place = c.at;
-        let p = peek::peek(unit, c);
-        if p.kind == 0 {
-            let tally = g.tally;
-            return answer(found, tally);
-        }
-        g = on_record(unit, variables, &mut hints, ids, endings, g, place, p.kind);
-        c = p.next;
+    let mut k = 0;
+    while k < n {
+        keep(ids, k, wire::get_u32(unit, at + 4));
+        let g = over_instructions(unit, variables, &mut hints, tally, at + 8);
+        let end = g.at;
+        tally = occurrences::with_terminator(unit, variables, &mut hints, g.tally, end);
+        keep(endings, k, end as u32);
+        at = end + 4 + wire::get_u16(unit, end) as usize;
+        k += 1;
     }
+    answer(found, tally)
 }

@@ -28,7 +28,7 @@ ghost use Rattle.passes.specs.Inner.{contextOf};
 ghost use Rattle.passes.specs.Notes.{EndsAt};
 ghost use Rattle.passes.specs.Tables.{relocsBy, Tables, Room, unitLanding};
 ghost use Rattle.passes.specs.Put.{slotTo, jumpOf, insnsTo, reaches, Relocates, RoomAt, Puts, Written};
-ghost use Rattle.passes.specs.Places.{instructionBy, places, opsAt, ringAt, endSlot, endOps, blockOps, blockRing};
+ghost use Rattle.passes.specs.Places.{instructionBy, places, ringOn, ringBy, opsAt, ringAt, endSlot, endOps, blockOps, blockRing};
 
 // The next slot of the code, and how many numbers the relocations have so far.
 pub struct Front {
@@ -77,6 +77,16 @@ fn put_relocation(relocs: &mut [u32], front: Front, map: MapUse, slots: u32) -> 
     }
 }
 
+// The scratch ring's position after an instruction: only one that loads a map's address takes cells of the ring.
+fn ring_after(map: MapUse, j: u8, payload: &[u8]) -> u8
+    ensures { λ r. ⌜ r ≡ ringOn map j (scratchIn j (now (payload .entry))) ⌝ }
+{
+    match map {
+        MapUse::Nothing => j,
+        MapUse::Map(_) => lower::scratch_after(j, payload),
+    }
+}
+
 // What an instruction becomes, by its payload.
 fn put_instruction(
     variables: &[u32],
@@ -91,7 +101,7 @@ fn put_instruction(
     requires { ⌜ length (now variables) ≤ 56 ⌝ }
     requires { ⌜ RoomAt (ops (at 0 (instructionBy (contextOf (now variables) (now hints) (now marks)) j (now payload)))) (front .slot .0) (front .relocs) (length (now code)) (length (now relocs)) ⌝ }
     ensures { λ r. ⌜ ((xs : List Start) → Puts (insns xs) (ops (at 0 (instructionBy (contextOf (now (variables .entry)) (now (hints .entry)) (now (marks .entry))) j (now (payload .entry))))) (front .slot .0) (front .relocs) (now (code .entry)) (now (relocs .entry)) (r .front .slot .0) (r .front .relocs) (now (code .exit)) (now (relocs .exit))) ⌝ }
-    ensures { λ r. ⌜ r .scratch ≡ scratchIn j (now (payload .entry)) ⌝ }
+    ensures { λ r. ⌜ r .scratch ≡ ringBy (contextOf (now (variables .entry)) (now (hints .entry)) (now (marks .entry))) j (now (payload .entry)) ⌝ }
 {
     let condition = context::condition_of(variables, hints, marks, payload);
     let slot = front.slot;
@@ -107,7 +117,7 @@ fn put_instruction(
     let map = e.map;
     Passed {
         front: put_relocation(relocs, front, map, e.slots),
-        scratch: lower::scratch_after(j, payload),
+        scratch: ring_after(map, j, payload),
     }
 }
 
@@ -203,7 +213,7 @@ fn put_instructions(
     requires { ⌜ (length (now variables) ≤ 56) × (end + 4 ≤ length (now unit)) × (length (now unit) ≤ 262144) ⌝ }
     requires { ⌜ RoomAt (opsAt (contextOf (now variables) (now hints) (now marks)) (now unit) scratch (places (now unit) first end)) (front .slot .0) (front .relocs) (length (now code)) (length (now relocs)) ⌝ }
     ensures { λ r. ⌜ ((xs : List Start) → Puts (insns xs) (opsAt (contextOf (now (variables .entry)) (now (hints .entry)) (now (marks .entry))) (now (unit .entry)) scratch (places (now (unit .entry)) first end)) (front .slot .0) (front .relocs) (now (code .entry)) (now (relocs .entry)) (r .front .slot .0) (r .front .relocs) (now (code .exit)) (now (relocs .exit))) ⌝ }
-    ensures { λ r. ⌜ r .scratch ≡ ringAt (now (unit .entry)) scratch (places (now (unit .entry)) first end) ⌝ }
+    ensures { λ r. ⌜ r .scratch ≡ ringAt (contextOf (now (variables .entry)) (now (hints .entry)) (now (marks .entry))) (now (unit .entry)) scratch (places (now (unit .entry)) first end) ⌝ }
 {
     let mut at = first;
     let mut passed = Passed {
@@ -249,7 +259,7 @@ fn put_block(
     requires { ⌜ RoomAt (blockOps (contextOf (now variables) (now hints) (now marks)) (now unit) (marked (now emitted) k) scratch first end) (front .slot .0) (front .relocs) (length (now code)) (length (now relocs)) ⌝ }
     requires { ⌜ reaches (slotTo (now edges) (now numbers) (2 * k)) (slotTo (now edges) (now numbers) (2 * k + 1)) (endSlot (contextOf (now variables) (now hints) (now marks)) (now unit) scratch first end (front .slot .0)) (endOps (contextOf (now variables) (now hints) (now marks)) (now unit) (marked (now emitted) k) end) ≡ true ⌝ }
     ensures { λ r. ⌜ ((xs : List Start) → Written xs (slotTo (now (edges .entry)) (now (numbers .entry)) (2 * k)) (slotTo (now (edges .entry)) (now (numbers .entry)) (2 * k + 1)) (endSlot (contextOf (now (variables .entry)) (now (hints .entry)) (now (marks .entry))) (now (unit .entry)) scratch first end (front .slot .0)) (endOps (contextOf (now (variables .entry)) (now (hints .entry)) (now (marks .entry))) (now (unit .entry)) (marked (now (emitted .entry)) k) end) → Puts (insns xs) (blockOps (contextOf (now (variables .entry)) (now (hints .entry)) (now (marks .entry))) (now (unit .entry)) (marked (now (emitted .entry)) k) scratch first end) (front .slot .0) (front .relocs) (now (code .entry)) (now (relocs .entry)) (r .front .slot .0) (r .front .relocs) (now (code .exit)) (now (relocs .exit))) ⌝ }
-    ensures { λ r. ⌜ r .scratch ≡ blockRing (now (unit .entry)) (marked (now (emitted .entry)) k) scratch first end ⌝ }
+    ensures { λ r. ⌜ r .scratch ≡ blockRing (contextOf (now (variables .entry)) (now (hints .entry)) (now (marks .entry))) (now (unit .entry)) (marked (now (emitted .entry)) k) scratch first end ⌝ }
 {
     if emitted[k] == 1 {
         let passed = put_instructions(

@@ -1,7 +1,6 @@
 pub mod Run
-pub mod Skips
+pub mod Passing
 pub mod Blocks
-pub mod Places
 pub mod Sizes
 pub mod Whole
 pub mod NamePlace

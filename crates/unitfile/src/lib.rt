@@ -63,7 +63,7 @@ fn one_less(n: u32) -> u32
 }
 
 // What is due after a record of a kind.
-pub fn after(c: Cursor, kind: u16, next: usize) -> Cursor
+pub(crate) fn after(c: Cursor, kind: u16, next: usize) -> Cursor
     ensures { λ r. ⌜ r ≡ after c kind next ⌝ }
 {
     if kind == 3 {

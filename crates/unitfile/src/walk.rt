@@ -3,14 +3,15 @@ use crate::Cursor;
 use crate::Found;
 use crate::ReadUnit;
 use crate::Step;
-use record::Due;
 use record::Fault;
 use record::Read;
 use recordcheck::Checked;
 ghost use mathlib.Core.Path.{_≡_};
-ghost use Rattle.unitfile.specs.Records.{onRecord, nextRecord, recordsFrom};
+ghost use Prim.Native.Nat.{ℕ, suc};
+ghost use Rattle.unitfile.specs.Records.{onRecord, recordsFrom};
 ghost use Rattle.unitfile.specs.Unit.{firstBlock, foundWith};
-ghost use Rattle.unitfile.specs.Inner.{faultOf, skipOf, onChecked};
+ghost use Rattle.unitfile.specs.Inner.{faultOf, inBlock, atBlock, onEnd};
+ghost use Rattle.unitfile.specs.declared.Found.{Found};
 
 // Why no record was read, where none was.
 fn fault(read: Read) -> Fault
@@ -31,37 +32,34 @@ pub(crate) fn on_record(c: Cursor, read: Read) -> Step
     Step::Go(r, crate::after(c, record::kind(r), next))
 }
 
-// A step with no value made of its record.
-pub enum Skip {
-    Go(Cursor),
-    End,
-    Refused(Fault),
-}
-
-fn on_checked(c: Cursor, checked: Checked) -> Skip
-    ensures { λ r. ⌜ r ≡ onChecked c checked ⌝ }
+// The records of a block after its first, its instructions and its terminator: the block's end, or the refusal.
+fn rest_of_block(s: &[u8], first: usize, maps: u16) -> Checked
+    ensures { λ r. ⌜ ((found : Found) (blocks : ℕ) → foundWith found (recordsFrom (now (s .entry)) maps (inBlock first blocks)) ≡ onEnd found (now (s .entry)) maps blocks r) ⌝ }
 {
-    match checked {
-        Checked::Next(kind, next) => Skip::Go(crate::after(c, kind, next)),
-        Checked::Refused(f) => Skip::Refused(f),
-    }
-}
-
-// The step at a cursor, in a unit of so many maps.
-fn skip_record(s: &[u8], maps: u16, c: Cursor) -> Skip
-    ensures { λ r. ⌜ r ≡ skipOf (nextRecord (now (s .entry)) maps c) ⌝ }
-{
-    let at = c.at;
-    if c.inside {
-        return on_checked(c, recordcheck::check_record(s, at, Due::Inside, maps));
-    }
-    if c.blocks == 0 {
-        if at == s.len() {
-            return Skip::End;
+    let mut at = first;
+    loop {
+        match recordcheck::check_inside(s, at, maps) {
+            Checked::Next(kind, next) => {
+                if kind != 4 {
+                    return Checked::Next(kind, next);
+                }
+                at = next;
+            }
+            Checked::Refused(f) => {
+                return Checked::Refused(f);
+            }
         }
-        return Skip::Refused(Fault::NotDue(at));
     }
-    on_checked(c, recordcheck::check_record(s, at, Due::Block, maps))
+}
+
+// A whole block.
+fn one_block(s: &[u8], at: usize, maps: u16) -> Checked
+    ensures { λ r. ⌜ ((found : Found) (blocks : ℕ) → foundWith found (recordsFrom (now (s .entry)) maps (atBlock at (suc blocks))) ≡ onEnd found (now (s .entry)) maps blocks r) ⌝ }
+{
+    match recordcheck::check_block(s, at) {
+        Checked::Next(_, next) => rest_of_block(s, next, maps),
+        Checked::Refused(f) => Checked::Refused(f),
+    }
 }
 
 // The blocks of a unit whose maps were read.
@@ -70,22 +68,21 @@ pub(crate) fn read_blocks(s: &[u8], found: Found) -> ReadUnit
 {
     let head = found.head;
     let maps = head.maps;
-    let mut c = Cursor {
-        at: found.body,
-        blocks: head.blocks,
-        inside: false,
-    };
-    loop {
-        match skip_record(s, maps, c) {
-            Skip::Go(next) => {
-                c = next;
+    let mut at = found.body;
+    let mut left = head.blocks;
+    while 0 < left {
+        match one_block(s, at, maps) {
+            Checked::Next(_, next) => {
+                at = next;
+                left = left - 1;
             }
-            Skip::End => {
-                return ReadUnit::Unit(found);
-            }
-            Skip::Refused(f) => {
+            Checked::Refused(f) => {
                 return ReadUnit::Refused(f);
             }
         }
     }
+    if at == s.len() {
+        return ReadUnit::Unit(found);
+    }
+    ReadUnit::Refused(Fault::NotDue(at))
 }

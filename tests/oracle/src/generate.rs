@@ -8,6 +8,7 @@ pub mod distances;
 pub mod frames;
 pub mod limits;
 pub mod opcodes;
+pub mod places;
 pub mod points;
 pub mod random;
 pub mod rooms;
@@ -83,7 +84,11 @@ pub fn stream(seed: u64) -> impl Iterator<Item = Case> {
     let mut clashing = 0..clashes::COUNT;
     let rest = std::iter::from_fn(move || {
         let number = if random.one_in(2) { clashing.next() } else { None };
-        Some(number.map_or_else(|| anything::case(&mut random), |n| Case::of(&clashes::nth(n))))
+        Some(match number {
+            Some(n) => Case::of(&clashes::nth(n)),
+            None if random.one_in(20) => Case::of(&places::any(&mut random)),
+            None => anything::case(&mut random),
+        })
     });
     systematic().chain(rest)
 }

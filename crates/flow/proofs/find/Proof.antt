@@ -1,90 +1,28 @@
--- `find` looks at the last key below the next id's.
+-- `find` asks the id's place, and then the keys if there are any.
 use native.Mathlib.Omega.{arith}
+use Rattle.flow.proofs.Places.{placed-here, placed-nowhere, told-keyed}
 use borrow.Author.Needs.{needs}
-use Rattle.flow.proofs.Keys.{keyed-ascends, find-none, found-inside, found-block, find-here, find-other}
 use Rattle.flow.proofs.find.Statement.{statement}
 use Rattle.flow.proofs.find.Tie as tie
 
-guess-requires : tie.Need-guess-requires
-guess-requires c κs = search needs
-
-mul-below : tie.Need-mul-below
-mul-below c = search needs
-
-add-below : tie.Need-add-below
-add-below c = search needs
-
-below-requires : tie.Need-below-requires
-below-requires c κs =
-    let d = c .before .before .before .before .pre in
-    (omega (arith, c .guess .ensures), d .room, keyed-ascends d)
+placed-requires : tie.Need-placed-requires
+placed-requires c κs = search needs
 
 returns : tie.Need-returns
 returns c =
-    let s = c .before .before .before .before .before .before in
-    let a = s .args in
-    find-none (s .pre) (a .id) (c .before .below .ensures) (c .if1 .taken)
-
-sub-number : tie.Need-sub-number
-sub-number c = search needs
-
-mul-number : tie.Need-mul-number
-mul-number c =
-    let s = c .before .before .before .before .before .before in
-    let a = s .args in
-    let d = s .pre in
-    omega (arith, d .count, found-inside d (a .id) (c .before .below .ensures) (omega arith))
-
-shared-slice-read-number : tie.Need-shared-slice-read-number
-shared-slice-read-number c =
-    let s = c .before .before .before .before .before .before .before in
-    let a = s .args in
-    let d = s .pre in
-    let b = c .before .before .below in
-    omega (arith, d .count, d .room, found-inside d (a .id) (b .ensures) (omega arith))
-
-mul-if2 : tie.Need-mul-if2
-mul-if2 c = search needs
-
-shared-slice-read-if2 : tie.Need-shared-slice-read-if2
-shared-slice-read-if2 c =
-    let s = c .before .before .before .before .before .before .before .before in
-    let a = s .args in
-    let d = s .pre in
-    let b = c .before .before .before .below in
-    omega (arith, d .size, found-block d (a .id) (b .ensures) (omega arith))
-
-cast-result : tie.Need-cast-result
-cast-result c = search needs
+    let s = c .before .before .before .before .before in
+    placed-here (s .pre) (s .args .id) (c .before .placed .ensures) (c .if1 .taken)
 
 returns-2 : tie.Need-returns-2
 returns-2 c =
-    let s = c .before .before .before .before .before .before .before .before .before in
-    let a = s .args in
-    let b = c .before .before .before .before .below in
-    find-here (s .pre) (a .id) (b .ensures) (omega arith) (c .if2 .taken)
+    let s = c .before .before .before .before .before .before in
+    placed-nowhere (s .pre) (s .args .id) (c .before .before .placed .ensures) (omega arith) (c .if2 .taken)
+
+search-requires : tie.Need-search-requires
+search-requires c κs = told-keyed (c .before .before .before .before .before .before .pre) (c .if2 .left)
 
 returns-3 : tie.Need-returns-3
-returns-3 c =
-    let s = c .before .before .before .before .before .before .before .before .before in
-    let a = s .args in
-    let b = c .before .before .before .before .below in
-    find-other (s .pre) (a .id) (b .ensures) (omega arith) (c .if2 .left)
+returns-3 c = search needs
 
 pub find-spec : {M : Type 1} → statement M
-find-spec =
-    tie.close
-    (tie.spec
-    guess-requires
-    mul-below
-    add-below
-    below-requires
-    returns
-    sub-number
-    mul-number
-    shared-slice-read-number
-    mul-if2
-    shared-slice-read-if2
-    cast-result
-    returns-2
-    returns-3)
+find-spec = tie.close (tie.spec placed-requires returns returns-2 search-requires returns-3)

@@ -1,79 +1,94 @@
--- `link_front` numbers the targets, marks what is reached over them, and reads each block's flag off the marks.
+-- `link_front` makes the table of places, and leaves the keys away where it tells all blocks' ids.
+use mathlib.Core.Path.{refl}
+use mathlib.Core.Logic.{inl}
 use native.Mathlib.Omega.{arith}
-use Rattle.flow.specs.Linked.{linkedTargets}
-use Rattle.flow.proofs.Linking.{flags-linked}
+use borrow.Author.Needs.{needs}
 use Rattle.flow.proofs.link_front.Statement.{statement}
 use Rattle.flow.proofs.link_front.Tie as tie
 
-sort-keys-requires : tie.Need-sort-keys-requires
-sort-keys-requires c κs = let s = c .before .before .before .before .before .before .before .before .before .before in (s .pre .0, s .pre .1, s .pre .5)
+put-places-requires : tie.Need-put-places-requires
+put-places-requires c κs = let p = c .before .before .before .before .before .before .before .before .pre in (p .0, p .1, p .2)
 
-put-numbers-requires : tie.Need-put-numbers-requires
-put-numbers-requires c κs =
-    let k = c .before .before .before .before .before .before .before in
-    let s = k .before .before .before .before .before .before .before .before .before .before .before in
-    (k .sort-keys .ensures, s .pre .3)
+all-placed-requires : tie.Need-all-placed-requires
+all-placed-requires c κs = let p = c .before .before .before .before .before .before .before .before .before .before .before .before .pre in (p .0, p .1, omega (arith, p .2, c .before .before .places .given))
 
-first-number-requires : tie.Need-first-number-requires
-first-number-requires c κs = c .before .before .before .before .before .before .before .before .before .before .before .before .sort-keys .ensures
+sub-link-found : tie.Need-sub-link-found
+sub-link-found c = search needs
 
-reach-requires : tie.Need-reach-requires
-reach-requires c κs =
-    let s = c .before .before .before .before .before .before .before .before .before .before .before .before .before .before .before .before .before .before .before .before .before .before .before .before .before .before .before in
-    (s .pre .2, omega (arith, s .pre .3), s .pre .6, s .pre .7, s .pre .8)
+part-link-found-start : tie.Need-part-link-found-start
+part-link-found-start c = search needs
 
-put-flags-requires : tie.Need-put-flags-requires
-put-flags-requires c κs =
-    let r = c .before .before .before .before .before .before .before .before in
-    let k = r .before .before .before .before .before .before .before .before .before .before .before .before .before .before .before .before .before in
-    let s = k .before .before .before .before .before .before .before .before .before .before .before in
-    (k .sort-keys .ensures, omega (arith, s .pre .6), omega (arith, s .pre .4))
+part-link-found-end : tie.Need-part-link-found-end
+part-link-found-end c = search needs
+
+link-found-requires : tie.Need-link-found-requires
+link-found-requires c κs =
+    let l = c .before .before .before .before .before .before .before in
+    let w = l .before in
+    let p = w .before .before .before .before .before .before .before .before .before .before .before .before .before .pre in
+    (record { count = p .0; size = p .1; room = omega (arith, p .2, w .before .before .before .places .given); puts = w .before .before .before .before .put-places .ensures; rest = inl (refl, w .all-placed .ensures (l .if1 .taken)) }, p .3, p .4, p .5, p .6, p .7, p .8)
+
+link-sorted-requires : tie.Need-link-sorted-requires
+link-sorted-requires c κs =
+    let p = c .before .before .before .before .before .before .before .before .before .before .before .before .before .before .before .before .before .before .before .pre in
+    (p .0, p .1, omega (arith, p .2, c .before .before .before .before .before .before .before .before .before .places .given), c .before .before .before .before .before .before .before .before .before .before .put-places .ensures, p .3, p .4, p .5, p .6, p .7, p .8)
 
 same-length : tie.Need-same-length
-same-length c = c .before .before .before .before .before .before .before .before .before .before .before .before .before .before .before .before .before .before .before .targets .given
+same-length c = c .before .before .before .before .before .before .before .targets .given
 
 same-length-2 : tie.Need-same-length-2
-same-length-2 c = c .before .emitted .given
+same-length-2 c = c .before .before .before .before .before .emitted .given
 
 same-length-3 : tie.Need-same-length-3
-same-length-3 c = c .before .before .before .before .before .before .before .before .before .before .before .before .before .before .before .before .before .before .before .before .before .before .before .before .before .before .before .keys .given
+same-length-3 c = c .before .before .before .before .before .before .before .before .before .before .before .before .before .before .before .before .before .before .before .before .places .given
 
 same-length-4 : tie.Need-same-length-4
-same-length-4 c = c .before .before .before .before .before .before .before .before .before .before .before .before .before .before .before .before .before .before .before .before .before .before .before .before .before .guesses .given
+same-length-4 c = c .before .before .before .marks .given
 
 same-length-5 : tie.Need-same-length-5
-same-length-5 c = c .before .before .before .before .before .before .before .before .before .before .marks .given
-
-same-length-6 : tie.Need-same-length-6
-same-length-6 c = c .before .before .before .before .before .before .before .before .pending .given
+same-length-5 c = c .before .pending .given
 
 returns : tie.Need-returns
-unfolding linkedTargets
-returns c =
-    let e = c .before .before in
-    let r = e .before .before .before .before .before .before .before .before .before in
-    let f = r .before .before .before .before in
-    let t = f .before .before .before .before .before in
-    let s = t .before .before .before .before .before .before .before .before .before .before .before .before .before .before .before .before .before .before .before in
-    let a = s .args in (
-      t .put-numbers .ensures,
-      flags-linked (a .n) (a .ids .now) (a .counts .now) (a .targets .now) (a .emitted .now) (r .reach .last .1 .1 .1 .1 .0) (s .pre .0) (s .pre .1) (s .pre .3)
-          (f .first-number .ensures) (t .put-numbers .ensures) (r .reach .ensures) (e .put-flags .ensures),
-    )
+returns c = c .before .before .before .before .before .before .before .before .link-found .ensures
+
+same-length-6 : tie.Need-same-length-6
+same-length-6 c = c .before .before .before .before .before .before .before .targets2 .given
+
+same-length-7 : tie.Need-same-length-7
+same-length-7 c = c .before .before .before .before .before .emitted2 .given
+
+same-length-8 : tie.Need-same-length-8
+same-length-8 c = c .before .before .before .before .before .before .before .before .before .before .before .before .before .before .before .before .before .before .places .given
+
+same-length-9 : tie.Need-same-length-9
+same-length-9 c = c .before .before .before .marks2 .given
+
+same-length-10 : tie.Need-same-length-10
+same-length-10 c = c .before .pending2 .given
+
+returns-2 : tie.Need-returns-2
+returns-2 c = c .before .before .before .before .before .before .before .before .link-sorted .ensures
 
 pub link-front-spec : {M : Type 1} → statement M
 link-front-spec =
     tie.close
     (tie.spec
-    sort-keys-requires
-    put-numbers-requires
-    first-number-requires
-    reach-requires
-    put-flags-requires
+    put-places-requires
+    all-placed-requires
+    sub-link-found
+    part-link-found-start
+    part-link-found-end
+    link-found-requires
+    link-sorted-requires
     same-length
     same-length-2
     same-length-3
     same-length-4
     same-length-5
+    returns
     same-length-6
-    returns)
+    same-length-7
+    same-length-8
+    same-length-9
+    same-length-10
+    returns-2)

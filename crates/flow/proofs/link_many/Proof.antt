@@ -14,22 +14,19 @@ slice-aggregate-link-front-2 c = refl
 slice-aggregate-link-front-3 : tie.Need-slice-aggregate-link-front-3
 slice-aggregate-link-front-3 c = refl
 
-slice-aggregate-link-front-4 : tie.Need-slice-aggregate-link-front-4
-slice-aggregate-link-front-4 c = refl
-
 link-front-requires : tie.Need-link-front-requires
 link-front-requires c κs =
-    let p = c .before .before .before .before .before .before .before .before .before .before .pre in
-    (omega (arith, p .0), p .1, p .2, p .3, p .4, omega (arith, p .0), omega (arith, p .0), omega (arith, p .0), clear 1024)
+    let p = c .before .before .before .before .before .before .before .before .before .pre in
+    (omega (arith, p .0), p .1, omega arith, p .2, p .3, p .4, omega (arith, p .0), omega (arith, p .0), clear 1024)
 
 same-length : tie.Need-same-length
-same-length c = c .before .before .before .before .before .before .before .targets .given
+same-length c = c .before .before .before .before .before .before .targets .given
 
 same-length-2 : tie.Need-same-length-2
-same-length-2 c = c .before .before .before .before .before .emitted .given
+same-length-2 c = c .before .before .before .before .emitted .given
 
 returns : tie.Need-returns
-returns c = c .before .before .before .before .before .before .before .before .link-front .ensures
+returns c = c .before .before .before .before .before .before .before .link-front .ensures
 
 pub link-many-spec : {M : Type 1} → statement M
 link-many-spec =
@@ -38,7 +35,6 @@ link-many-spec =
     slice-aggregate-link-front
     slice-aggregate-link-front-2
     slice-aggregate-link-front-3
-    slice-aggregate-link-front-4
     link-front-requires
     same-length
     same-length-2

@@ -4,20 +4,19 @@ use Prim.Native.Nat.{_-_, _≤_, _<_}
 use native.Mathlib.Omega.{arith}
 use borrow.Author.Needs.{needs}
 use lib.ListN.{length, take, length-set}
-use lib.Seq.{sets, slice, getD-take}
+use lib.Seq.{sets, slice, length-take-le, getD-take}
 use Rattle.flow.specs.Way.{marksOf}
 use Rattle.flow.proofs.Numbers.{number-block}
-use Rattle.flow.proofs.Keys.{ids-count}
 use Rattle.flow.proofs.Passes.{marks-step, marks-end}
 use Rattle.flow.proofs.put_flags.Statement.{statement}
 use Rattle.flow.proofs.put_flags.Tie as tie
 
 abbrev Inv-loop : tie.InvT-loop
-Inv-loop n ids keys guesses marks emitted₀ i₀ emitted i =
+Inv-loop n ids keys places marks emitted₀ i₀ emitted i =
     (i ≤ n) × (length emitted ≡ length emitted₀) × (sets emitted i (marksOf marks (take n ids) (slice i n ids)) ≡ sets emitted₀ 0 (marksOf marks (take n ids) (take n ids)))
 
 abbrev μ-loop : tie.MeasureT-loop
-μ-loop n ids keys guesses marks emitted₀ i₀ emitted i = n - i
+μ-loop n ids keys places marks emitted₀ i₀ emitted i = n - i
 
 loop-holds : tie.Need-loop-holds Inv-loop μ-loop
 loop-holds c = (omega arith, refl, refl)
@@ -41,7 +40,7 @@ shared-slice-read-emitted c =
     let a = s .args in
     let d = s .pre .0 in
     let b : l .loop .i < a .n = omega arith in
-    let k = ids-count d in
+    let k = length-take-le (a .n) (a .ids .now) (d .size) in
     let m = number-block (take (a .n) (a .ids .now)) (l .loop .i) (omega (arith, d .count)) (omega arith) in
     omega (arith, c .before .find .ensures, rw (getD-take (a .n) (a .ids .now) (l .loop .i) 0 b) at m, s .pre .1)
 

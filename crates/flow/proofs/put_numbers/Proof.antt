@@ -10,11 +10,11 @@ use Rattle.flow.proofs.put_numbers.Statement.{statement}
 use Rattle.flow.proofs.put_numbers.Tie as tie
 
 abbrev Inv-loop : tie.InvT-loop
-Inv-loop n ids keys guesses targets₀ j₀ targets j =
+Inv-loop n ids keys places targets₀ j₀ targets j =
     (j ≤ 2 * n) × (length targets ≡ length targets₀) × (sets targets j (numbers (take n ids) (slice j (2 * n) targets)) ≡ sets targets₀ 0 (numbers (take n ids) (take (2 * n) targets₀)))
 
 abbrev μ-loop : tie.MeasureT-loop
-μ-loop n ids keys guesses targets₀ j₀ targets j = 2 * n - j
+μ-loop n ids keys places targets₀ j₀ targets j = 2 * n - j
 
 loop-holds : tie.Need-loop-holds Inv-loop μ-loop
 loop-holds c = (omega arith, refl, refl)

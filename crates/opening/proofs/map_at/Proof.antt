@@ -7,37 +7,37 @@ use Rattle.opening.proofs.MapLaws.{map-checked, map-refused}
 use Rattle.opening.proofs.map_at.Statement.{statement}
 use Rattle.opening.proofs.map_at.Tie as tie
 
-check-record-requires : tie.Need-check-record-requires
-check-record-requires c κs = search needs
+check-map-requires : tie.Need-check-map-requires
+check-map-requires c κs = search needs
 
 enum-known-next : tie.Need-enum-known-next
 enum-known-next c = search needs
 
 add-start : tie.Need-add-start
-add-start c = let m = map-checked _ _ _ _ (sym (c .before .before .before .check-record .ensures) ∙ c .before .next .given .1) in omega arith
+add-start c = let m = map-checked _ _ _ _ (sym (c .before .before .before .check-map .ensures 0) ∙ c .before .next .given .1) in omega arith
 
-sub-t9 : tie.Need-sub-t9
-sub-t9 c = let m = map-checked _ _ _ _ (sym (c .before .before .before .check-record .ensures) ∙ c .before .next .given .1) in omega arith
+sub-t8 : tie.Need-sub-t8
+sub-t8 c = let m = map-checked _ _ _ _ (sym (c .before .before .before .check-map .ensures 0) ∙ c .before .next .given .1) in omega arith
 
 enum-known-f : tie.Need-enum-known-f
 enum-known-f c = search needs
 
 returns : tie.Need-returns
 unfolding Lies
-returns c = let m = map-checked _ _ _ _ (sym (c .before .before .before .check-record .ensures) ∙ c .before .next .given .1) in (sym (m .map), omega arith)
+returns c = let m = map-checked _ _ _ _ (sym (c .before .before .before .check-map .ensures 0) ∙ c .before .next .given .1) in (sym (m .map), omega arith)
 
 returns-2 : tie.Need-returns-2
 unfolding Lies
-returns-2 c = (sym (map-refused _ _ _ (sym (c .before .before .before .check-record .ensures) ∙ c .before .f .given .1)), tt)
+returns-2 c = (sym (map-refused _ _ _ (sym (c .before .before .before .check-map .ensures 0) ∙ c .before .f .given .1)), tt)
 
 pub map-at-spec : {M : Type 1} → statement M
 map-at-spec =
     tie.close
     (tie.spec
-    check-record-requires
+    check-map-requires
     enum-known-next
     add-start
-    sub-t9
+    sub-t8
     enum-known-f
     returns
     returns-2)

@@ -14,7 +14,7 @@ use Rattle.tracepoint.proofs.write.put_instructions.Tie as tie
 
 abbrev Inv-loop : tie.InvT-loop
 Inv-loop unit variables hints marks first end code₀ relocs₀ scratch at₀ passed₀ code relocs at passed =
-    Putting (contextOf variables hints marks) unit end (opsAt (contextOf variables hints marks) unit scratch (places unit first end)) (ringAt unit scratch (places unit first end)) (passed₀ .front .slot .0) (passed₀ .front .relocs) code₀ relocs₀
+    Putting (contextOf variables hints marks) unit end (opsAt (contextOf variables hints marks) unit scratch (places unit first end)) (ringAt (contextOf variables hints marks) unit scratch (places unit first end)) (passed₀ .front .slot .0) (passed₀ .front .relocs) code₀ relocs₀
     at (passed .scratch) (passed .front .slot .0) (passed .front .relocs) code relocs
     × (length code ≡ length code₀) × (length relocs ≡ length relocs₀)
 

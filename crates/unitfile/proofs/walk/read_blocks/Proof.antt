@@ -1,52 +1,52 @@
--- `read_blocks` walks over the records. The invariant: what is found from the cursor on is what is found from the first block on.
-use mathlib.Core.Path.{_≡_, refl, sym, ap, _∙_}
-use Prim.Native.Nat.{_-_}
+-- `read_blocks` passes the blocks that are due. The invariant: what is found from this block on is what is found from the first on.
+use mathlib.Core.Path.{_≡_, refl, sym, _∙_}
 use native.Mathlib.Omega.{arith}
 use borrow.Author.Needs.{needs}
-use lib.ListN.{length}
 use Rattle.unitfile.specs.Unit.{firstBlock, foundWith}
 use Rattle.unitfile.specs.Records.{recordsFrom}
-use Rattle.unitfile.proofs.Whole.{found-cons}
-use Rattle.unitfile.proofs.Run.{later, on-go, on-end, on-refused}
-use Rattle.unitfile.proofs.Skips.{steps-on, steps-end, steps-refused}
+use Rattle.unitfile.specs.Inner.{atBlock}
+use Rattle.unitfile.proofs.Passing.{block-passed, block-faulty, all-found, more-left}
 use Rattle.unitfile.proofs.walk.read_blocks.Statement.{statement}
 use Rattle.unitfile.proofs.walk.read_blocks.Tie as tie
 
 abbrev Inv-loop : tie.InvT-loop
-Inv-loop s found maps c₀ c = foundWith found (recordsFrom s maps c) ≡ foundWith found (recordsFrom s maps c₀)
+Inv-loop s found maps at₀ left₀ at left = foundWith found (recordsFrom s maps (atBlock at₀ left₀)) ≡ foundWith found (recordsFrom s maps (atBlock at left))
 
 abbrev μ-loop : tie.MeasureT-loop
-μ-loop s found maps c₀ c = length s - c .at
+μ-loop s found maps at₀ left₀ at left = left
 
 loop-holds : tie.Need-loop-holds Inv-loop μ-loop
 loop-holds c = refl
 
-skip-record-requires : tie.Need-skip-record-requires Inv-loop μ-loop
-skip-record-requires c κs = search needs
+one-block-requires : tie.Need-one-block-requires Inv-loop μ-loop
+one-block-requires c κs = search needs
 
 enum-known-next : tie.Need-enum-known-next Inv-loop μ-loop
 enum-known-next c = search needs
 
+sub-left : tie.Need-sub-left Inv-loop μ-loop
+sub-left c = search needs
+
 loop-less : tie.Need-loop-less Inv-loop μ-loop
-loop-less c = let o = later _ _ (c .before .before .before .before .loop .c) _ _ (steps-on _ _ (sym (c .before .before .before .skip-record .ensures) ∙ c .before .next .given .1) .step) in omega arith
+loop-less c = omega arith
 
 loop-again : tie.Need-loop-again Inv-loop μ-loop
-loop-again c = sym (ap (foundWith _) (on-go _ _ (c .before .before .before .before .loop .c) _ _ (steps-on _ _ (sym (c .before .before .before .skip-record .ensures) ∙ c .before .next .given .1) .step)) ∙ found-cons _ _ _)
-    ∙ c .before .before .before .before .loop .inv
-
-enum-told : tie.Need-enum-told Inv-loop μ-loop
-enum-told c = search needs
-
-returns : tie.Need-returns Inv-loop μ-loop
-unfolding firstBlock foundWith
-returns c = sym (sym (c .before .before .before .loop .inv) ∙ ap (foundWith _) (on-end _ _ (c .before .before .before .loop .c) (steps-end _ (sym (c .before .before .skip-record .ensures) ∙ c .enum-told .given .1))))
+loop-again c = c .before .before .before .before .before .loop .inv ∙ block-passed _ _ _ _ _ (c .before .before .before .one-block .ensures _) (c .before .before .before .before .before .loop .left) (omega (arith, c .before .before .before .before .loop-test .taken)) _ _ (c .before .next .given .1)
 
 enum-known-f : tie.Need-enum-known-f Inv-loop μ-loop
 enum-known-f c = search needs
 
+returns : tie.Need-returns Inv-loop μ-loop
+unfolding firstBlock
+returns c = sym (c .before .before .before .before .before .loop .inv ∙ block-faulty _ _ _ _ _ (c .before .before .before .one-block .ensures _) (c .before .before .before .before .before .loop .left) (omega (arith, c .before .before .before .before .loop-test .taken)) _ (c .before .f .given .1))
+
 returns-2 : tie.Need-returns-2 Inv-loop μ-loop
-unfolding firstBlock foundWith
-returns-2 c = sym (sym (c .before .before .before .before .loop .inv) ∙ ap (foundWith _) (on-refused _ _ (c .before .before .before .before .loop .c) _ (steps-refused _ _ (sym (c .before .before .before .skip-record .ensures) ∙ c .before .f .given .1))))
+unfolding firstBlock
+returns-2 c = let z : c .before .before .loop .left ≡ 0 = omega arith in sym (c .before .before .loop .inv ∙ rw z (all-found _ _ _ _ (c .if1 .taken)))
+
+returns-3 : tie.Need-returns-3 Inv-loop μ-loop
+unfolding firstBlock
+returns-3 c = let z : c .before .before .loop .left ≡ 0 = omega arith in sym (c .before .before .loop .inv ∙ rw z (more-left _ _ _ _ (c .if1 .left)))
 
 pub read-blocks-spec : {M : Type 1} → statement M
 read-blocks-spec =
@@ -55,11 +55,12 @@ read-blocks-spec =
     Inv-loop
     μ-loop
     loop-holds
-    skip-record-requires
+    one-block-requires
     enum-known-next
+    sub-left
     loop-less
     loop-again
-    enum-told
-    returns
     enum-known-f
-    returns-2)
+    returns
+    returns-2
+    returns-3)

@@ -1,0 +1,37 @@
+-- `one_block` passes the block's first record, and then the rest.
+use mathlib.Core.Path.{sym, _∙_}
+use borrow.Author.Needs.{needs}
+use Rattle.unitfile.specs.Inner.{onEnd}
+use Rattle.unitfile.proofs.Passing.{block-opened, block-refused}
+use Rattle.unitfile.proofs.walk.one_block.Statement.{statement}
+use Rattle.unitfile.proofs.walk.one_block.Tie as tie
+
+check-block-requires : tie.Need-check-block-requires
+check-block-requires c κs = search needs
+
+enum-known-next : tie.Need-enum-known-next
+enum-known-next c = search needs
+
+rest-of-block-requires : tie.Need-rest-of-block-requires
+rest-of-block-requires c κs = search needs
+
+enum-known-f : tie.Need-enum-known-f
+enum-known-f c = search needs
+
+returns : tie.Need-returns
+returns c = λ found blocks. block-opened found _ _ _ blocks _ _ (sym (c .before .before .before .before .check-block .ensures (c .before .before .before .before .before .before .args .maps)) ∙ c .before .before .next .given .1) ∙ c .rest-of-block .ensures found blocks
+
+returns-2 : tie.Need-returns-2
+unfolding onEnd
+returns-2 c = λ found blocks. block-refused found _ _ _ blocks _ (sym (c .before .before .before .check-block .ensures (c .before .before .before .before .before .args .maps)) ∙ c .before .f .given .1)
+
+pub one-block-spec : {M : Type 1} → statement M
+one-block-spec =
+    tie.close
+    (tie.spec
+    check-block-requires
+    enum-known-next
+    rest-of-block-requires
+    enum-known-f
+    returns
+    returns-2)
