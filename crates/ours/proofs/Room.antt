@@ -102,7 +102,7 @@ unit-bytes b u e = go (decided b)
     go (refusal f r p) = let q = sym p ∙ e in let z : _≡_ {A = ℕ} 0 1 = cc in absurd (omega arith)
     go (whole-unit found v r p n m) =
         let all = rw e at (blocks-flat b found r) in
-        omega (arith, sizes-all b (found .head .maps) (flat (u .blocks)) (firstBlock (found .head) (found .body)) all, unit-of b found r .short)
+        omega (arith, sizes-all b (found .maps) (flat (u .blocks)) (firstBlock (found .blocks) (found .body)) all, unit-of b found r .short)
 
 -- the blocks that are reached, by whatever test
 pub kept-slots : (b : List ℕ) (u : UnitIr) (reached : ℕ → Bool) (c : Context) (l : List Op) → parse b ≡ parsed u → unitOps c (keep reached (u .blocks)) ≡ laid l → slotsOf l ≤ 131072

@@ -39,7 +39,7 @@ module _ (b : List ℕ) where
       rw (first, rest)
 
   -- where a unit was read whole, they are those of its blocks
-  pub closings-at : (found : Found) (es : List ℕ) → readUnit b ≡ U.Unit found → EndsAt b es → closingsAt b es 0 (found .head .blocks) ≡ closings (blocksOf (parse b))
+  pub closings-at : (found : Found) (es : List ℕ) → readUnit b ≡ U.Unit found → EndsAt b es → closingsAt b es 0 (found .blocks) ≡ closings (blocksOf (parse b))
   closings-at found es e ends =
       let bs = blocksOf (parse b) in
       let n = endings-count bs in

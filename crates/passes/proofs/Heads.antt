@@ -59,10 +59,10 @@ module _ (b : List ℕ) where
   unfolding firstRecord
   first-read h = rw (le-leb (length b) 262144 h)
 
-  pub head-blocks : (found : Found) → readUnit b ≡ U.Unit found → found .head .blocks ≡ unsignedAt w32 b 8
+  pub head-blocks : (found : Found) → readUnit b ≡ U.Unit found → found .blocks ≡ unsignedAt w32 b 8
   head-blocks found e =
       let w = whole b found e in
-      head-by (readRecord b 0 Du.Head 0) refl (found .head) (w .first) (ap headOf (sym (first-read (unit-of b found e .short))) ∙ w .head)
+      sym (w .blocks-are) ∙ head-by (readRecord b 0 Du.Head 0) refl (w .opening) (w .first) (ap headOf (sym (first-read (unit-of b found e .short))) ∙ w .head)
 
   blocks-by : (n : ℕ) → unsignedAt w32 b 8 ≤ n → (x : ReadUnit) → readUnit b ≡ x → length (blocksOf (parse b)) ≤ n
   unfolding blocksOf

@@ -105,7 +105,7 @@ pub record Measuring (b : List ℕ) (c : Context) (e : ℕ → Bool) (es ls₁ l
   pub short : place ≤ length b
   pub long : length ls ≡ length ls₁
 
-pub start : (b : List ℕ) (found : Found) (c : Context) (e : ℕ → Bool) (es ls : List ℕ) → readUnit b ≡ U.Unit found → EndsAt b es → BlocksCelled (c .frame) (blocksOf (parse b)) → Measuring b c e es ls ls (found .head .blocks) 0 (found .body) 1 0
+pub start : (b : List ℕ) (found : Found) (c : Context) (e : ℕ → Bool) (es ls : List ℕ) → readUnit b ≡ U.Unit found → EndsAt b es → BlocksCelled (c .frame) (blocksOf (parse b)) → Measuring b c e es ls ls (found .blocks) 0 (found .body) 1 0
 unfolding unitOps
 start b found c e es ls h ends cells =
     let bs = blocksOf (parse b) in

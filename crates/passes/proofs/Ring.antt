@@ -14,7 +14,7 @@ use Rattle.lower.specs.Instruction.{onFirst, onTwo, opcode, afterFirst, afterTw
 use Rattle.lower.specs.Held.{mapIn, held}
 use Rattle.lower.specs.declared.MapUse.{MapUse}
 use Rattle.lower.specs.declared.MapUse.the-variants as M
-use Rattle.layout.specs.Layout.{Laid, at}
+use Rattle.layout.specs.Layout.{at}
 use Rattle.layout.proofs.Laid.{Fine}
 use Rattle.passes.specs.Places.{ringOn}
 

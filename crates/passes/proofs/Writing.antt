@@ -312,7 +312,7 @@ take-most (suc n) [] = omega arith
 take-most (suc n) (x ∷ l) = let h = take-most n l in omega arith
 
 -- the places of its terminators stand in their list
-pub ends-room : (b : List ℕ) (found : Found) (es : List ℕ) → readUnit b ≡ U.Unit found → EndsAt b es → found .head .blocks ≤ length es
+pub ends-room : (b : List ℕ) (found : Found) (es : List ℕ) → readUnit b ≡ U.Unit found → EndsAt b es → found .blocks ≤ length es
 ends-room b found es read ends = omega (arith, take-most (length (blocksOf (parse b))) es, ap length ends, endings-count (blocksOf (parse b)), blocks-count b found read)
 
 module _ (b : List ℕ) (found : Found) (c : Context) (e : ℕ → Bool) (read : readUnit b ≡ U.Unit found) where
@@ -343,7 +343,7 @@ module _ (b : List ℕ) (found : Found) (c : Context) (e : ℕ → Bool) (read :
     unfolding move insn at ops slotsOf
     first-room room = omega (arith, room .code, ap slotsOf ops-unit)
 
-    pub start : (es cs rs : List ℕ) → EndsAt b es → unitLanding c e bs ≡ lands → Room entire (length cs) (length rs) → Left b es c e xs edges numbers emits cs rs (found .head .blocks) 0 (found .body) 0 1 0 cs rs
+    pub start : (es cs rs : List ℕ) → EndsAt b es → unitLanding c e bs ≡ lands → Room entire (length cs) (length rs) → Left b es c e xs edges numbers emits cs rs (found .blocks) 0 (found .body) 0 1 0 cs rs
     unfolding jumps move insn at ops slotsOf mapsOf
     start es cs rs ends land room =
         record {

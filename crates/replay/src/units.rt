@@ -8,11 +8,10 @@ use unitfile::ReadUnit;
 fn reading(unit: &[u8]) {
     match unitfile::read_unit(unit) {
         ReadUnit::Unit(found) => {
-            let head = found.head;
             output::word(b"good maps ");
-            output::decimal(head.maps as u64);
+            output::decimal(found.maps as u64);
             output::word(b" blocks ");
-            output::decimal(head.blocks as u64);
+            output::decimal(found.blocks as u64);
             output::word(b"\n");
         }
         ReadUnit::Refused(f) => output::refused(record::refusal(f)),

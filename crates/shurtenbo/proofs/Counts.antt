@@ -1,4 +1,4 @@
--- The counts of a unit that was read are its head's.
+-- The counts that were found are those of the unit that was read.
 use mathlib.Core.Path.{_≡_}
 use mathlib.Core.List.{List}
 use Prim.Native.Nat.{ℕ}
@@ -12,7 +12,7 @@ use Rattle.unitfile.proofs.Units.{unit-of}
 use Rattle.shurtenbo.specs.Answer.{doneWith, numbersOf}
 use Rattle.shurtenbo.specs.Units.{unitNumbers}
 
-pub whole-numbers : (b : List ℕ) (found : Found) → readUnit b ≡ U.Unit found → unitNumbers (parse b) ≡ doneWith (found .head .maps) (found .head .blocks)
+pub whole-numbers : (b : List ℕ) (found : Found) → readUnit b ≡ U.Unit found → unitNumbers (parse b) ≡ doneWith (found .maps) (found .blocks)
 unfolding unitNumbers
 whole-numbers b found e =
     let u = unit-of b found e in

@@ -19,10 +19,7 @@ pub extern "C" fn shurtenbo_read_unit(unit: &[u8], answer: &mut [u64; 3])
     ensures { λ _. ⌜ now (answer .exit) ≡ unitNumbers (parse (now (unit .entry))) ⌝ }
 {
     match unitfile::read_unit(unit) {
-        ReadUnit::Unit(found) => {
-            let head = found.head;
-            answer::done(answer, head.maps as u64, head.blocks as u64)
-        }
+        ReadUnit::Unit(found) => answer::done(answer, found.maps as u64, found.blocks as u64),
         ReadUnit::Refused(f) => answer::refused(answer, record::refusal(f)),
     }
 }

@@ -17,18 +17,18 @@ use Rattle.survey.specs.Surveyed.{blocksOf}
 -- a unit that was read whole
 module _ (b : List ℕ) (found : Found) (e : readUnit b ≡ U.Unit found) where
   -- its blocks' records are those that were read
-  pub blocks-flat : recordsFrom b (found .head .maps) (firstBlock (found .head) (found .body)) ≡ records (flat (blocksOf (parse b)))
+  pub blocks-flat : recordsFrom b (found .maps) (firstBlock (found .blocks) (found .body)) ≡ records (flat (blocksOf (parse b)))
   unfolding blocksOf
   blocks-flat = let u = unit-of b found e in rw (u .parsed-as) (u .body)
 
-  pub blocks-count : length (blocksOf (parse b)) ≡ found .head .blocks
+  pub blocks-count : length (blocksOf (parse b)) ≡ found .blocks
   unfolding blocksOf
   blocks-count = let u = unit-of b found e in rw (u .parsed-as) (u .blocks)
 
 module _ (b : List ℕ) where
   few-by : (x : ReadUnit) → readUnit b ≡ x → length (blocksOf (parse b)) ≤ 1024
   unfolding blocksOf
-  few-by (U.Unit found) e = omega (arith, blocks-count b found e, unit-of b found e .bounds .blocks)
+  few-by (U.Unit found) e = omega (arith, blocks-count b found e, unit-of b found e .few-blocks)
   few-by (U.Refused f) e = rw (refused-whole b f e) (omega arith)
 
   pub few-blocks : length (blocksOf (parse b)) ≤ 1024

@@ -172,4 +172,4 @@ module _ (b : List ℕ) (maps : ℕ) where
 -- the blocks of a unit that was read
 pub standing : (b : List ℕ) (found : Found) → readUnit b ≡ U.Unit found → Standing b (found .body) (blocksOf (parse b))
 unfolding firstBlock
-standing b found e = stands b (found .head .maps) (blocksOf (parse b)) (firstBlock (found .head) (found .body)) (blocks-flat b found e)
+standing b found e = stands b (found .maps) (blocksOf (parse b)) (firstBlock (found .blocks) (found .body)) (blocks-flat b found e)

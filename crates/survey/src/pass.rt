@@ -2,7 +2,6 @@
 use crate::Survey;
 use crate::occurrences;
 use crate::occurrences::Tally;
-use record::Head;
 use unitfile::Found;
 use unitfile::ReadUnit;
 ghost use mathlib.Core.Path.{_≡_};
@@ -76,8 +75,7 @@ pub(crate) fn survey_blocks(
     ensures { λ _. ⌜ now (ids .exit) ≡ surveyedIds (now (unit .entry)) (now (ids .entry)) ⌝ }
     ensures { λ _. ⌜ now (endings .exit) ≡ surveyedEndings (now (unit .entry)) (now (endings .entry)) ⌝ }
 {
-    let head = found.head;
-    let n = head.blocks as usize;
+    let n = found.blocks as usize;
     let mut at = found.body;
     let mut tally = Tally { count: 0, place: 0 };
     let mut hints = [0u8; 256];

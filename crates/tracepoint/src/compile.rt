@@ -39,7 +39,7 @@ fn write_roomed(
     relocs: &mut [u32],
 ) -> Compiled
     requires { ⌜ readUnit (now unit) ≡ ReadUnit.Unit found ⌝ }
-    requires { ⌜ (length (now variables) ≤ 56) × EndsAt (now unit) (now endings) × (found .head .blocks ≤ length (now emitted)) ⌝ }
+    requires { ⌜ (length (now variables) ≤ 56) × EndsAt (now unit) (now endings) × (found .blocks ≤ length (now emitted)) ⌝ }
     requires { ⌜ Ready (contextOf (now variables) (now hints) (now marks)) (marked (now emitted)) (blocksOf (parse (now unit))) (now edges) (now numbers) slots maps ⌝ }
     ensures { λ r. ⌜ Answers (loweredBy (contextOf (now (variables .entry)) (now (hints .entry)) (now (marks .entry))) (marked (now (emitted .entry))) (blocksOf (parse (now (unit .entry))))) (now (code .entry)) (now (relocs .entry)) r (now (code .exit)) (now (relocs .exit)) ⌝ }
 {
@@ -84,7 +84,7 @@ fn compile_linked(
     relocs: &mut [u32],
 ) -> Compiled
     requires { ⌜ readUnit (now unit) ≡ ReadUnit.Unit found ⌝ }
-    requires { ⌜ (collected (blocksOf (parse (now unit))) ≡ all (now variables)) × EndsAt (now unit) (now endings) × (found .head .blocks + 1 ≤ length (now edges)) ⌝ }
+    requires { ⌜ (collected (blocksOf (parse (now unit))) ≡ all (now variables)) × EndsAt (now unit) (now endings) × (found .blocks + 1 ≤ length (now edges)) ⌝ }
     requires { ⌜ Linked (blocksOf (parse (now unit))) (now emitted) (now numbers) (now endings) (now counts) (now named) ⌝ }
     ensures { λ r. ⌜ Answers (loweringBy (contextOf (now (variables .entry)) (now (hints .entry)) (now (marks .entry))) (marked (now (emitted .entry))) (blocksOf (parse (now (unit .entry))))) (now (code .entry)) (now (relocs .entry)) r (now (code .exit)) (now (relocs .exit)) ⌝ }
 {
@@ -100,8 +100,15 @@ fn compile_linked(
     ) {
         Size::Refused(place, reason) => Compiled::Refused(Fault::Instruction(place, reason)),
         Size::Slots(slots, maps) => {
-            let head = found.head;
-            match jumps::check_jumps(head.blocks, emitted, edges, endings, counts, named, numbers) {
+            match jumps::check_jumps(
+                found.blocks,
+                emitted,
+                edges,
+                endings,
+                counts,
+                named,
+                numbers,
+            ) {
                 Landed::NoTarget(place, id) => Compiled::Refused(Fault::NoTarget(place, id)),
                 Landed::TooFar(place, id) => Compiled::Refused(Fault::TooFar(place, id)),
                 Landed::Lands => write_roomed(
@@ -157,8 +164,7 @@ pub(crate) fn compile_surveyed(
         named,
         numbers,
     );
-    let head = found.head;
-    let n = head.blocks as usize;
+    let n = found.blocks as usize;
     flow::link(n, ids, counts, numbers, emitted);
     compile_linked(
         unit,

@@ -157,12 +157,11 @@ pub(crate) fn note_blocks(
 )
     requires { ⌜ readUnit (now unit) ≡ ReadUnit.Unit found ⌝ }
     requires { ⌜ Fits (now variables) × EndsAt (now unit) (now endings) × (length (now marks) ≡ 56) ⌝ }
-    requires { ⌜ (found .head .blocks ≤ length (now endings)) × (found .head .blocks ≤ length (now counts)) × (2 * found .head .blocks ≤ length (now targets)) × (2 * found .head .blocks ≤ length (now numbers)) ⌝ }
+    requires { ⌜ (found .blocks ≤ length (now endings)) × (found .blocks ≤ length (now counts)) × (2 * found .blocks ≤ length (now targets)) × (2 * found .blocks ≤ length (now numbers)) ⌝ }
     ensures { λ _. ⌜ Noted (blocksOf (parse (now (unit .entry)))) (now (variables .entry)) (now (marks .entry)) (now (counts .entry)) (now (targets .entry)) (now (marks .exit)) (now (counts .exit)) (now (targets .exit)) ⌝ }
     ensures { λ _. ⌜ Noted (blocksOf (parse (now (unit .entry)))) (now (variables .entry)) (now (marks .entry)) (now (counts .entry)) (now (numbers .entry)) (now (marks .exit)) (now (counts .exit)) (now (numbers .exit)) ⌝ }
 {
-    let head = found.head;
-    let n = head.blocks as usize;
+    let n = found.blocks as usize;
     let mut k = 0;
     while k < n {
         note(

@@ -121,7 +121,32 @@ fn compile_in(
     }
 }
 
-// Few blocks have small tables, since a table costs its filling.
+// One block has the smallest tables, and few have small ones, since a table costs its filling.
+fn compile_one(unit: &[u8], code: &mut [u8], relocs: &mut [u32]) -> Compiled
+    requires { ⌜ length (blocksOf (parse (now unit))) ≤ 1 ⌝ }
+    ensures { λ r. ⌜ Answers (loweringOf (parse (now (unit .entry)))) (now (code .entry)) (now (relocs .entry)) r (now (code .exit)) (now (relocs .exit)) ⌝ }
+{
+    let mut ids = [0u32; 1];
+    let mut endings = [0u32; 1];
+    let mut counts = [0u8; 1];
+    let mut named = [0u32; 2];
+    let mut numbers = [0u32; 2];
+    let mut emitted = [0u8; 1];
+    let mut edges = [0u32; 2];
+    compile_in(
+        unit,
+        &mut ids,
+        &mut endings,
+        &mut counts,
+        &mut named,
+        &mut numbers,
+        &mut emitted,
+        &mut edges,
+        code,
+        relocs,
+    )
+}
+
 fn compile_few(unit: &[u8], code: &mut [u8], relocs: &mut [u32]) -> Compiled
     requires { ⌜ length (blocksOf (parse (now unit))) ≤ 16 ⌝ }
     ensures { λ r. ⌜ Answers (loweringOf (parse (now (unit .entry)))) (now (code .entry)) (now (relocs .entry)) r (now (code .exit)) (now (relocs .exit)) ⌝ }
@@ -178,7 +203,11 @@ pub fn compile_tracepoint(unit: &[u8], code: &mut [u8], relocs: &mut [u32]) -> C
     ensures { λ _. ⌜ now (relocs .exit) ≡ compileRelocs (now (unit .entry)) (length (now (code .entry))) (now (relocs .entry)) ⌝ }
 {
     // where a unit's head counts its blocks
-    if wire::get_u32(unit, 8) <= 16 {
+    let blocks = wire::get_u32(unit, 8);
+    if blocks <= 1 {
+        return compile_one(unit, code, relocs);
+    }
+    if blocks <= 16 {
         return compile_few(unit, code, relocs);
     }
     compile_many(unit, code, relocs)

@@ -163,11 +163,10 @@ pub(crate) fn measure(
 ) -> Size
     requires { ⌜ readUnit (now unit) ≡ ReadUnit.Unit found ⌝ }
     requires { ⌜ collected (blocksOf (parse (now unit))) ≡ all (now variables) ⌝ }
-    requires { ⌜ EndsAt (now unit) (now endings) × (found .head .blocks ≤ length (now emitted)) × (found .head .blocks + 1 ≤ length (now edges)) ⌝ }
+    requires { ⌜ EndsAt (now unit) (now endings) × (found .blocks ≤ length (now emitted)) × (found .blocks + 1 ≤ length (now edges)) ⌝ }
     ensures { λ r. ⌜ Measured (contextOf (now (variables .entry)) (now (hints .entry)) (now (marks .entry))) (marked (now (emitted .entry))) (blocksOf (parse (now (unit .entry)))) (now (edges .entry)) r (now (edges .exit)) ⌝ }
 {
-    let head = found.head;
-    let n = head.blocks as usize;
+    let n = found.blocks as usize;
     let mut slots = 1;
     let mut relocs = 0;
     let mut at = found.body;

@@ -305,15 +305,14 @@ pub(crate) fn write_unit(
     relocs: &mut [u32],
 )
     requires { ⌜ readUnit (now unit) ≡ ReadUnit.Unit found ⌝ }
-    requires { ⌜ (length (now variables) ≤ 56) × EndsAt (now unit) (now endings) × (found .head .blocks ≤ length (now emitted)) × (2 * found .head .blocks ≤ length (now numbers)) ⌝ }
+    requires { ⌜ (length (now variables) ≤ 56) × EndsAt (now unit) (now endings) × (found .blocks ≤ length (now emitted)) × (2 * found .blocks ≤ length (now numbers)) ⌝ }
     requires { ⌜ Tables (contextOf (now variables) (now hints) (now marks)) (marked (now emitted)) (blocksOf (parse (now unit))) (now edges) (now numbers) ⌝ }
     requires { ⌜ unitLanding (contextOf (now variables) (now hints) (now marks)) (marked (now emitted)) (blocksOf (parse (now unit))) ≡ lands ⌝ }
     requires { ⌜ Room (ops (unitOps (contextOf (now variables) (now hints) (now marks)) (keepBy (marked (now emitted)) 0 (blocksOf (parse (now unit)))))) (length (now code)) (length (now relocs)) ⌝ }
     ensures { λ _. ⌜ now (code .exit) ≡ sets (now (code .entry)) 0 (codeBytes (insns (starts (contextOf (now (variables .entry)) (now (hints .entry)) (now (marks .entry))) (keepBy (marked (now (emitted .entry))) 0 (blocksOf (parse (now (unit .entry)))))) 0 (ops (unitOps (contextOf (now (variables .entry)) (now (hints .entry)) (now (marks .entry))) (keepBy (marked (now (emitted .entry))) 0 (blocksOf (parse (now (unit .entry))))))))) ⌝ }
     ensures { λ _. ⌜ now (relocs .exit) ≡ sets (now (relocs .entry)) 0 (relocations 0 (ops (unitOps (contextOf (now (variables .entry)) (now (hints .entry)) (now (marks .entry))) (keepBy (marked (now (emitted .entry))) 0 (blocksOf (parse (now (unit .entry)))))))) ⌝ }
 {
-    let head = found.head;
-    let n = head.blocks as usize;
+    let n = found.blocks as usize;
     put(
         code,
         SlotNumber(0),

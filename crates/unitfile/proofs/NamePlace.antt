@@ -58,7 +58,7 @@ place-from b (suc n) (suc k) names at all end e h start len next f =
 -- ---- as the code finds it
 
 module _ (b : List ℕ) (found : Found) (w : Whole b found) where
-  pub place-at : (h : Head) (first k : ℕ) → headOf (firstRecord b) ≡ H.Is h first → k < found .head .maps → (start len next : ℕ) → mapFrom b first k ≡ M.Is start len next → placeOf b (parse b) k ≡ P.At start len
+  pub place-at : (h : Head) (first k : ℕ) → headOf (firstRecord b) ≡ H.Is h first → k < found .maps → (start len next : ℕ) → mapFrom b first k ≡ M.Is start len next → placeOf b (parse b) k ≡ P.At start len
   unfolding placeOf mapBytes
   place-at h first k e l start len next f =
       let same = sym (w .head) ∙ e in
@@ -70,13 +70,13 @@ module _ (b : List ℕ) (found : Found) (w : Whole b found) where
       let m = is-map b (n .at) (n .start) (n .len) (n .next) (n .map) in
       let size = part-length (n .start) (n .len) b (omega (arith, m .ends, m .within)) in
       let name = ap length (sym (name-is b found w k) ∙ n .name-is) in
-      let begins = place-from b (found .head .maps) k [] (w .first) (w .names) (found .body) (w .maps) l start len next (rw z f) in
+      let begins = place-from b (found .maps) k [] (w .first) (w .names) (found .body) (w .maps) l start len next (rw z f) in
       let count = names-all b found w in
       let start-is : nextAt b 0 + mapBytes (take k (w .names)) + 4 ≡ start = omega (arith, rw zero-add at begins, after-head b h first e) in
       let len-is : length (getD (w .names) k []) ≡ len = omega arith in
       rw (w .unit, lt-ltb k (length (w .names)) (omega arith), start-is, len-is)
 
-  pub place-none : (k : ℕ) → found .head .maps ≤ k → placeOf b (parse b) k ≡ P.NoSuchMap
+  pub place-none : (k : ℕ) → found .maps ≤ k → placeOf b (parse b) k ≡ P.NoSuchMap
   unfolding placeOf
   place-none k h =
       let count = names-all b found w in
@@ -94,20 +94,20 @@ pub record Lying (b name : List ℕ) (start len : ℕ) : Type 0 where
   pub within : start + len ≤ length b
 
 lying-by : (b : List ℕ) (x : ReadUnit) → readUnit b ≡ x → (k start len : ℕ) → placeOf b (parse b) k ≡ P.At start len → Lying b (nameOf (parse b) k) start len
-lying-by b (U.Unit found) r k start len e = go (ltb k (found .head .maps)) refl
+lying-by b (U.Unit found) r k start len e = go (ltb k (found .maps)) refl
   where
-    go : (t : Bool) → ltb k (found .head .maps) ≡ t → Lying b (nameOf (parse b) k) start len
+    go : (t : Bool) → ltb k (found .maps) ≡ t → Lying b (nameOf (parse b) k) start len
     go true t =
         let w = whole b found r in
-        let l = ltb-true k (found .head .maps) t in
+        let l = ltb-true k (found .maps) t in
         let n = name-place b found w k l in
-        let g = sym (place-at b found w (found .head) (w .first) k (w .head) l (n .start) (n .len) (n .next) (n .found)) ∙ e in
+        let g = sym (place-at b found w (w .opening) (w .first) k (w .head) l (n .start) (n .len) (n .next) (n .found)) ∙ e in
         let p : n .start ≡ start = cc in
         let q : n .len ≡ len = cc in
         let m = is-map b (n .at) (n .start) (n .len) (n .next) (n .map) in
         record { name-is = rw (← p, ← q) (n .name-is); within = omega (arith, m .ends, m .within) }
     go false t =
-        let g = sym (place-none b found (whole b found r) k (ltb-false k (found .head .maps) t)) ∙ e in
+        let g = sym (place-none b found (whole b found r) k (ltb-false k (found .maps) t)) ∙ e in
         let z : _≡_ {A = ℕ} 0 1 = cc in absurd (omega arith)
 lying-by b (U.Refused f) r k start len e =
     let g = sym (place-refused b k f r) ∙ e in

@@ -21,7 +21,7 @@ use Rattle.unitfile.proofs.Units.{unit, unit-of}
 -- every byte string is refused by the reader and by the definition alike, or it is a unit, and the head's counts are those of its names and blocks
 pub data Decided (b : List ℕ) : Type 0 where
   refusal : (f : Fault) → readUnit b ≡ U.Refused f → parse b ≡ refused f → Decided b
-  whole-unit : (found : Found) (u : UnitIr) → readUnit b ≡ U.Unit found → parse b ≡ parsed u → length (u .names) ≡ found .head .maps → length (u .blocks) ≡ found .head .blocks → Decided b
+  whole-unit : (found : Found) (u : UnitIr) → readUnit b ≡ U.Unit found → parse b ≡ parsed u → length (u .names) ≡ found .maps → length (u .blocks) ≡ found .blocks → Decided b
 
 decided-by : (b : List ℕ) (x : ReadUnit) → readUnit b ≡ x → Decided b
 decided-by b (U.Unit found) e = let u = unit-of b found e in whole-unit found (unit b found e) e (u .parsed-as) (u .names) (u .blocks)
@@ -50,7 +50,7 @@ pub record NameInside (b : List ℕ) (k : ℕ) : Type 0 where
   pub name : nameOf (parse b) k ≡ take len (drop start b)
   pub read : readRecord b (start - 4) Du.Map 0 ≡ Re.Record (R.Map start len) (start + len)
 
-name-by : (b : List ℕ) (found : Found) → Whole b found → (k : ℕ) → k < found .head .maps → NameInside b k
+name-by : (b : List ℕ) (found : Found) → Whole b found → (k : ℕ) → k < found .maps → NameInside b k
 name-by b found w k h =
     let n = name-place b found w k h in
     let m = is-map b (n .at) (n .start) (n .len) (n .next) (n .map) in

@@ -28,7 +28,7 @@ unfolding foundWith cons
 found-cons found p (records l) = refl
 found-cons found p (rs.refused f) = refl
 
-pub found-body : (b : List ℕ) (o : Opened) (h : Head) (at : ℕ) → bodyOf o ≡ B.Is h at → foundIn b o ≡ foundWith (record { head = h; body = at }) (recordsFrom b (h .maps) (firstBlock h at))
+pub found-body : (b : List ℕ) (o : Opened) (h : Head) (at : ℕ) → bodyOf o ≡ B.Is h at → foundIn b o ≡ foundWith (record { maps = h .maps; blocks = h .blocks; body = at }) (recordsFrom b (h .maps) (firstBlock (h .blocks) at))
 unfolding bodyOf foundIn
 found-body b (opened g names to) h at e =
     let p : g ≡ h = cc in
@@ -45,21 +45,23 @@ found-refused b (shut g) f e = let z : g ≡ f = cc in ap U.Refused z
 
 -- a unit that was read whole: its head, its maps' names and its blocks' records
 pub record Whole (b : List ℕ) (found : Found) : Type 0 where
+  pub opening : Head
+  pub blocks-are : opening .blocks ≡ found .blocks
   pub first : ℕ
   pub names : List (List ℕ)
   pub list : List Placed
-  pub head : headOf (firstRecord b) ≡ H.Is (found .head) first
-  pub maps : namesAt b [] first (found .head .maps) ≡ named names (found .body)
-  pub body : recordsFrom b (found .head .maps) (firstBlock (found .head) (found .body)) ≡ records list
+  pub head : headOf (firstRecord b) ≡ H.Is opening first
+  pub maps : namesAt b [] first (found .maps) ≡ named names (found .body)
+  pub body : recordsFrom b (found .maps) (firstBlock (found .blocks) (found .body)) ≡ records list
   pub unit : parse b ≡ parsed (record { names = names; blocks = group none list })
 
 module _ (b : List ℕ) where
-  records-by : (h : Head) (names : List (List ℕ)) (at : ℕ) → openUnit b ≡ opened h names at → (x : Records) → recordsFrom b (h .maps) (firstBlock h at) ≡ x → (found : Found) → foundWith (record { head = h; body = at }) x ≡ U.Unit found → Whole b found
+  records-by : (h : Head) (names : List (List ℕ)) (at : ℕ) → openUnit b ≡ opened h names at → (x : Records) → recordsFrom b (h .maps) (firstBlock (h .blocks) at) ≡ x → (found : Found) → foundWith (record { maps = h .maps; blocks = h .blocks; body = at }) x ≡ U.Unit found → Whole b found
   unfolding foundWith parse onOpened withRecords
   records-by h names at o (records l) p found e =
-      let z : record { head = h; body = at } ≡ found = cc in
+      let z : record { maps = h .maps; blocks = h .blocks; body = at } ≡ found = cc in
       let q = opened-at b h names at o in
-      subst (Whole b) z (record { first = q .first; names = names; list = l; head = q .head; maps = q .maps; body = p; unit = rw (o, p) })
+      subst (Whole b) z (record { opening = h; blocks-are = refl; first = q .first; names = names; list = l; head = q .head; maps = q .maps; body = p; unit = rw (o, p) })
   records-by h names at o (rs.refused f) p found e = let z : _≡_ {A = ℕ} 0 1 = cc in absurd (omega arith)
 
   whole-by : (o : Opened) → openUnit b ≡ o → (found : Found) → foundIn b o ≡ U.Unit found → Whole b found
@@ -88,7 +90,7 @@ module _ (b : List ℕ) where
 -- ---- a map's name
 
 module _ (b : List ℕ) (found : Found) (w : Whole b found) where
-  pub names-all : length (w .names) ≡ found .head .maps
+  pub names-all : length (w .names) ≡ found .maps
   names-all = let n = names-count b _ [] (w .first) (w .names) (found .body) (w .maps) in omega arith
 
   pub name-is : (k : ℕ) → nameOf (parse b) k ≡ getD (w .names) k []
@@ -96,7 +98,7 @@ module _ (b : List ℕ) (found : Found) (w : Whole b found) where
   name-is k = rw (w .unit)
 
   -- where the name of a map lies
-  pub name-place : (k : ℕ) → k < found .head .maps → NameAt b (w .first) k (nameOf (parse b) k)
+  pub name-place : (k : ℕ) → k < found .maps → NameAt b (w .first) k (nameOf (parse b) k)
   name-place k h = rw (name-is k) (simp zero-add at (name-at b _ k [] (w .first) (w .names) (found .body) (w .maps) h))
 
   -- as the code finds it, from the head on
@@ -105,7 +107,7 @@ module _ (b : List ℕ) (found : Found) (w : Whole b found) where
       let z = sym (w .head) ∙ e in
       let y : _≡_ {A = ℕ} 0 1 = cc in omega arith
 
-  pub name-from : (h : Head) (first k : ℕ) → headOf (firstRecord b) ≡ H.Is h first → k < found .head .maps → NameAt b first k (nameOf (parse b) k)
+  pub name-from : (h : Head) (first k : ℕ) → headOf (firstRecord b) ≡ H.Is h first → k < found .maps → NameAt b first k (nameOf (parse b) k)
   name-from h first k e l =
       let z = sym (w .head) ∙ e in
       let y : w .first ≡ first = cc in

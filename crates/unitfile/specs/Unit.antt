@@ -4,7 +4,6 @@ use mathlib.Core.Bool.{false}
 use mathlib.Core.List.{List, [], _∷_, _++_}
 use Rattle.ir.specs.declared.Instruction.{Instruction}
 use Rattle.ir.specs.declared.Terminator.{Terminator}
-use Rattle.record.specs.declared.Head.{Head}
 use Rattle.record.specs.declared.Record.{Record}
 use Rattle.record.specs.declared.Record.the-variants as R
 use Rattle.record.specs.declared.Fault.{Fault}
@@ -62,12 +61,12 @@ unfoldable pub withRecords : List (List ℕ) → Records → Parsed
 withRecords names (rs.records l) = parsed (record { names = names; blocks = group none l })
 withRecords names (rs.refused f) = refused f
 
--- where the blocks begin
-unfoldable pub firstBlock : Head → ℕ → Cursor
-firstBlock h at = record { at = at; blocks = h .blocks; inside = false }
+-- where so many blocks begin
+unfoldable pub firstBlock : ℕ → ℕ → Cursor
+firstBlock count at = record { at = at; blocks = count; inside = false }
 
 unfoldable pub onOpened : List ℕ → Opened → Parsed
-onOpened b (opened h names at) = withRecords names (recordsFrom b (h .maps) (firstBlock h at))
+onOpened b (opened h names at) = withRecords names (recordsFrom b (h .maps) (firstBlock (h .blocks) at))
 onOpened b (shut f) = refused f
 
 unfoldable pub parse : List ℕ → Parsed
@@ -79,7 +78,7 @@ foundWith found (rs.records l) = U.Unit found
 foundWith found (rs.refused f) = U.Refused f
 
 unfoldable pub foundIn : List ℕ → Opened → ReadUnit
-foundIn b (opened h names at) = foundWith (record { head = h; body = at }) (recordsFrom b (h .maps) (firstBlock h at))
+foundIn b (opened h names at) = foundWith (record { maps = h .maps; blocks = h .blocks; body = at }) (recordsFrom b (h .maps) (firstBlock (h .blocks) at))
 foundIn b (shut f) = U.Refused f
 
 unfoldable pub readUnit : List ℕ → ReadUnit

@@ -6,7 +6,6 @@ use opening::HeadAt;
 use opening::MapAt;
 use record::Due;
 use record::Fault;
-use record::Head;
 use record::Record;
 ghost use mathlib.Core.Path.{_≡_};
 ghost use Prim.Native.Nat.{_-_};
@@ -28,9 +27,10 @@ pub enum Step {
     Refused(Fault),
 }
 
-// A unit that was read whole: its head, and where its blocks begin.
+// A unit that was read whole: how many maps and blocks it has, and where its blocks begin.
 pub struct Found {
-    pub head: Head,
+    pub maps: u16,
+    pub blocks: u32,
     pub body: usize,
 }
 
@@ -105,7 +105,8 @@ pub fn read_unit(s: &[u8]) -> ReadUnit
         BodyAt::Is(head, body) => walk::read_blocks(
             s,
             Found {
-                head: head,
+                maps: head.maps,
+                blocks: head.blocks,
                 body: body,
             },
         ),
@@ -119,8 +120,7 @@ pub fn map_place(s: &[u8], map: u32) -> MapPlace
 {
     match read_unit(s) {
         ReadUnit::Unit(found) => {
-            let head = found.head;
-            if map < head.maps as u32 {
+            if map < found.maps as u32 {
                 let HeadAt::Is(_, first) = opening::head_at(s) else {
                     return MapPlace::NoSuchMap;
                 };

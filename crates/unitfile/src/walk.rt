@@ -64,12 +64,11 @@ fn one_block(s: &[u8], at: usize, maps: u16) -> Checked
 
 // The blocks of a unit whose maps were read.
 pub(crate) fn read_blocks(s: &[u8], found: Found) -> ReadUnit
-    ensures { λ r. ⌜ r ≡ foundWith found (recordsFrom (now (s .entry)) (found .head .maps) (firstBlock (found .head) (found .body))) ⌝ }
+    ensures { λ r. ⌜ r ≡ foundWith found (recordsFrom (now (s .entry)) (found .maps) (firstBlock (found .blocks) (found .body))) ⌝ }
 {
-    let head = found.head;
-    let maps = head.maps;
+    let maps = found.maps;
     let mut at = found.body;
-    let mut left = head.blocks;
+    let mut left = found.blocks;
     while 0 < left {
         match one_block(s, at, maps) {
             Checked::Next(_, next) => {

@@ -25,7 +25,7 @@ enum-told : tie.Need-enum-told
 enum-told c = search needs
 
 returns : tie.Need-returns
-returns c = let w = whole _ _ (sym (c .before .before .before .before .before .before .before .before .before .read-unit .ensures) ∙ c .before .before .before .before .before .before .before .found .given .1) in
+returns c = let w = whole _ _ (sym (c .before .before .before .before .before .before .before .before .read-unit .ensures) ∙ c .before .before .before .before .before .before .found .given .1) in
     absurd (head-there _ _ w _ (sym (c .before .before .head-at .ensures) ∙ c .enum-told .given .1))
 
 map-from-requires : tie.Need-map-from-requires
@@ -38,19 +38,19 @@ enum-told-2 : tie.Need-enum-told-2
 enum-told-2 c = search needs
 
 returns-2 : tie.Need-returns-2
-returns-2 c = let w = whole _ _ (sym (c .before .before .before .before .before .before .before .before .before .before .before .before .before .read-unit .ensures) ∙ c .before .before .before .before .before .before .before .before .before .before .before .found .given .1) in
+returns-2 c = let w = whole _ _ (sym (c .before .before .before .before .before .before .before .before .before .before .before .before .read-unit .ensures) ∙ c .before .before .before .before .before .before .before .before .before .before .found .given .1) in
     let n = name-from _ _ w _ _ _ (sym (c .before .before .before .before .before .before .head-at .ensures) ∙ c .before .before .before .before .first .given .1) (c .before .before .before .before .before .before .before .if1 .taken) in
     absurd (name-there n _ (sym (c .before .before .map-from .ensures) ∙ c .enum-told2 .given .1))
 
 returns-3 : tie.Need-returns-3
-returns-3 c = let w = whole _ _ (sym (c .before .before .before .before .before .before .before .before .before .before .before .before .before .before .read-unit .ensures) ∙ c .before .before .before .before .before .before .before .before .before .before .before .before .found .given .1) in
+returns-3 c = let w = whole _ _ (sym (c .before .before .before .before .before .before .before .before .before .before .before .before .before .read-unit .ensures) ∙ c .before .before .before .before .before .before .before .before .before .before .before .found .given .1) in
     sym (place-at _ _ w _ _ _ (sym (c .before .before .before .before .before .before .before .head-at .ensures) ∙ c .before .before .before .before .before .first .given .1) (c .before .before .before .before .before .before .before .before .if1 .taken) _ _ _ (sym (c .before .before .before .map-from .ensures) ∙ c .before .start .given .1))
 
 enum-known-f : tie.Need-enum-known-f
 enum-known-f c = search needs
 
 returns-4 : tie.Need-returns-4
-returns-4 c = let w = whole _ _ (sym (c .before .before .before .before .before .before .read-unit .ensures) ∙ c .before .before .before .before .found .given .1) in
+returns-4 c = let w = whole _ _ (sym (c .before .before .before .before .before .read-unit .ensures) ∙ c .before .before .before .found .given .1) in
     sym (place-none _ _ w _ (c .if1 .left))
 
 returns-5 : tie.Need-returns-5

@@ -1,4 +1,4 @@
--- `shurtenbo_read_unit` tells the head's counts, which are those of the unit's maps and blocks.
+-- `shurtenbo_read_unit` tells the counts that were found, which are those of the unit's maps and blocks.
 use mathlib.Core.Path.{ap, sym, _∙_}
 use Rattle.shurtenbo.specs.Answer.{numbersOf}
 use Rattle.shurtenbo.proofs.Counts.{whole-numbers, refused-numbers}
@@ -31,7 +31,7 @@ refused-requires : tie.Need-refused-requires
 refused-requires c κs = search needs
 
 returns : tie.Need-returns
-returns c = c .done .ensures ∙ sym (whole-numbers _ _ (sym (c .before .before .before .before .before .before .before .before .read-unit .ensures) ∙ c .before .before .before .before .before .before .found .given .1))
+returns c = c .done .ensures ∙ sym (whole-numbers _ _ (sym (c .before .before .before .before .before .before .before .read-unit .ensures) ∙ c .before .before .before .before .before .found .given .1))
 
 returns-2 : tie.Need-returns-2
 returns-2 c = c .refused .ensures ∙ ap numbersOf (c .before .refusal .ensures) ∙ sym (refused-numbers _ _ (sym (c .before .before .before .before .before .before .read-unit .ensures) ∙ c .before .before .before .before .f .given .1))

@@ -25,9 +25,9 @@ cast-n c = search needs
 
 loop-holds : tie.Need-loop-holds Inv-loop μ-loop
 loop-holds c =
-    let s = c .before .before .before .before .before in
+    let s = c .before .before .before .before in
     let u = unit-of _ _ (s .pre .0) in
-    (start (s .args .unit .now) (s .args .found) _ _ _ (s .pre .0) (s .pre .1), sym (blocks-count _ _ (s .pre .0)), u .short, u .bounds .blocks)
+    (start (s .args .unit .now) (s .args .found) _ _ _ (s .pre .0) (s .pre .1), sym (blocks-count _ _ (s .pre .0)), u .short, u .few-blocks)
 
 add-get-u32 : tie.Need-add-get-u32 Inv-loop μ-loop
 add-get-u32 c =
@@ -133,7 +133,7 @@ returns : tie.Need-returns Inv-loop μ-loop
 returns c =
     let t = c .before in
     let k = t .before .loop .inv in
-    let s = t .before .before .before .before .before .before .before in
+    let s = t .before .before .before .before .before .before in
     let all = rw (k .1) at (t .loop-test .left) in
     (c .answer .ensures ∙ end-answer (k .0) all (s .args .found), (end-variables (k .0) all (s .pre .1), (end-ids (k .0) all, end-endings (k .0) all)))
 

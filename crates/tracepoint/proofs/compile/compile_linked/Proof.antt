@@ -38,10 +38,10 @@ enum-told c = search needs
 
 write-roomed-requires : tie.Need-write-roomed-requires
 write-roomed-requires c κs =
-    let s = c .before .before .before .before .before .before .before .before .before .before .before .before .before .before .before .before .before .before .before .before .before .before .before .before .before in
+    let s = c .before .before .before .before .before .before .before .before .before .before .before .before .before .before .before .before .before .before .before .before .before .before .before .before in
     let same = blocks-count (s .args .unit .now) (s .args .found) (s .pre .0) in
     let roomy : length (blocksOf (parse (s .args .unit .now))) < length (s .args .edges .now) = omega (arith, same, s .pre .1 .0 .2) in
-    (s .pre .0, ((all-fits _ _ (s .pre .1 .0 .0) .few, s .pre .1 .0 .1, omega (arith, same, s .pre .1 .1 .emitted-size)), ready (contextOf (s .args .variables .now) (s .args .hints .now) (s .args .marks .now)) _ _ _ _ (c .before .before .before .before .before .before .before .before .before .before .before .before .before .measure .ensures) (s .pre .1 .1) _ _ (c .before .before .before .before .before .before .before .before .before .slots .given .1) roomy (sym same) (c .before .before .before .before .before .check-jumps .ensures) (c .before .before .before .enum-told .given .1)))
+    (s .pre .0, ((all-fits _ _ (s .pre .1 .0 .0) .few, s .pre .1 .0 .1, omega (arith, same, s .pre .1 .1 .emitted-size)), ready (contextOf (s .args .variables .now) (s .args .hints .now) (s .args .marks .now)) _ _ _ _ (c .before .before .before .before .before .before .before .before .before .before .before .before .measure .ensures) (s .pre .1 .1) _ _ (c .before .before .before .before .before .before .before .before .slots .given .1) roomy (sym same) (c .before .before .before .before .before .check-jumps .ensures) (c .before .before .before .enum-told .given .1)))
 
 same-length : tie.Need-same-length
 same-length c = search needs
@@ -54,20 +54,20 @@ same-length-2 c = search needs
 
 returns-2 : tie.Need-returns-2
 returns-2 c =
-    let s = c .before .before .before .before .before .before .before .before .before .before .before .before .before .before .before .before .before .before .before .before .before .before .before in
+    let s = c .before .before .before .before .before .before .before .before .before .before .before .before .before .before .before .before .before .before .before .before .before .before in
     let same = blocks-count (s .args .unit .now) (s .args .found) (s .pre .0) in
     let roomy : length (blocksOf (parse (s .args .unit .now))) < length (s .args .edges .now) = omega (arith, same, s .pre .1 .0 .2) in
-    when-no-target (contextOf (s .args .variables .now) (s .args .hints .now) (s .args .marks .now)) _ _ _ _ (c .before .before .before .before .before .before .before .before .before .before .before .measure .ensures) (s .pre .1 .1) _ _ (c .before .before .before .before .before .before .before .slots .given .1) roomy (sym same) (c .before .before .before .check-jumps .ensures) _ _ (c .before .place2 .given .1) _ _
+    when-no-target (contextOf (s .args .variables .now) (s .args .hints .now) (s .args .marks .now)) _ _ _ _ (c .before .before .before .before .before .before .before .before .before .before .measure .ensures) (s .pre .1 .1) _ _ (c .before .before .before .before .before .before .slots .given .1) roomy (sym same) (c .before .before .before .check-jumps .ensures) _ _ (c .before .place2 .given .1) _ _
 
 same-length-3 : tie.Need-same-length-3
 same-length-3 c = search needs
 
 returns-3 : tie.Need-returns-3
 returns-3 c =
-    let s = c .before .before .before .before .before .before .before .before .before .before .before .before .before .before .before .before .before .before .before .before .before .before .before in
+    let s = c .before .before .before .before .before .before .before .before .before .before .before .before .before .before .before .before .before .before .before .before .before .before in
     let same = blocks-count (s .args .unit .now) (s .args .found) (s .pre .0) in
     let roomy : length (blocksOf (parse (s .args .unit .now))) < length (s .args .edges .now) = omega (arith, same, s .pre .1 .0 .2) in
-    when-too-far (contextOf (s .args .variables .now) (s .args .hints .now) (s .args .marks .now)) _ _ _ _ (c .before .before .before .before .before .before .before .before .before .before .before .measure .ensures) (s .pre .1 .1) _ _ (c .before .before .before .before .before .before .before .slots .given .1) roomy (sym same) (c .before .before .before .check-jumps .ensures) _ _ (c .before .place3 .given .1) _ _
+    when-too-far (contextOf (s .args .variables .now) (s .args .hints .now) (s .args .marks .now)) _ _ _ _ (c .before .before .before .before .before .before .before .before .before .before .measure .ensures) (s .pre .1 .1) _ _ (c .before .before .before .before .before .before .slots .given .1) roomy (sym same) (c .before .before .before .check-jumps .ensures) _ _ (c .before .place3 .given .1) _ _
 
 same-length-4 : tie.Need-same-length-4
 same-length-4 c = search needs
@@ -80,10 +80,10 @@ same-length-6 c = search needs
 
 returns-4 : tie.Need-returns-4
 returns-4 c =
-    let s = c .before .before .before .before .before .before .before .before .before .before .before .before .before .before .before .before .before .before .before .before .before .before .before .before .before .before .before .before .before .before in
+    let s = c .before .before .before .before .before .before .before .before .before .before .before .before .before .before .before .before .before .before .before .before .before .before .before .before .before .before .before .before .before in
     let same = blocks-count (s .args .unit .now) (s .args .found) (s .pre .0) in
     let roomy : length (blocksOf (parse (s .args .unit .now))) < length (s .args .edges .now) = omega (arith, same, s .pre .1 .0 .2) in
-    when-lands (contextOf (s .args .variables .now) (s .args .hints .now) (s .args .marks .now)) _ _ _ _ (c .before .before .before .before .before .before .before .before .before .before .before .before .before .before .before .before .before .before .measure .ensures) (s .pre .1 .1) _ _ (c .before .before .before .before .before .before .before .before .before .before .before .before .before .before .slots .given .1) roomy (sym same) (c .before .before .before .before .before .before .before .before .before .before .check-jumps .ensures) (c .before .before .before .before .before .before .before .before .enum-told .given .1) (c .before .before .before .before .write-roomed .ensures)
+    when-lands (contextOf (s .args .variables .now) (s .args .hints .now) (s .args .marks .now)) _ _ _ _ (c .before .before .before .before .before .before .before .before .before .before .before .before .before .before .before .before .before .measure .ensures) (s .pre .1 .1) _ _ (c .before .before .before .before .before .before .before .before .before .before .before .before .before .slots .given .1) roomy (sym same) (c .before .before .before .before .before .before .before .before .before .before .check-jumps .ensures) (c .before .before .before .before .before .before .before .before .enum-told .given .1) (c .before .before .before .before .write-roomed .ensures)
 
 pub compile-linked-spec : {M : Type 1} → statement M
 compile-linked-spec =

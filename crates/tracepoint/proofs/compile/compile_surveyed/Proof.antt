@@ -28,15 +28,15 @@ link-requires c κs = search needs
 
 compile-linked-requires : tie.Need-compile-linked-requires
 compile-linked-requires c κs =
-    let s = c .before .before .before .before .before .before .before .before .before .before .before .before .before .before .before .before .before .before .before .before .before .before .before .before .before .before .before .before .before .before .before .before .before .before .before .before .before .before .before .before .before .before .before .before in
+    let s = c .before .before .before .before .before .before .before .before .before .before .before .before .before .before .before .before .before .before .before .before .before .before .before .before .before .before .before .before .before .before .before .before .before .before .before .before .before .before .before .before .before .before .before in
     let p = s .pre in
     let same = blocks-count (s .args .unit .now) (s .args .found) (p .0 .read) in
-    let n = c .before .before .before .before .before .before .before .before .before .before .before .before .before .before .before .before .before .before .before .before .before .before .before .before .before .note-blocks .ensures in
+    let n = c .before .before .before .before .before .before .before .before .before .before .before .before .before .before .before .before .before .before .before .before .before .before .before .before .note-blocks .ensures in
     let l = c .before .before .before .before .before .before .before .before .before .before .before .before .before .link .ensures in
     (p .0 .read, ((p .0 .collects, p .0 .endings, omega (arith, same, p .1 .edges)), linked (s .args .emitted .now) (p .0) (p .1) (n .0) (n .1) (sym same) (l .0) (l .1)))
 
 same-length : tie.Need-same-length
-same-length c = omega (arith, noted-counts (c .before .before .before .before .before .before .before .before .before .before .before .before .before .before .before .before .before .before .before .before .before .before .before .before .before .before .before .before .before .before .before .before .note-blocks .ensures .0))
+same-length c = omega (arith, noted-counts (c .before .before .before .before .before .before .before .before .before .before .before .before .before .before .before .before .before .before .before .before .before .before .before .before .before .before .before .before .before .before .before .note-blocks .ensures .0))
 
 same-length-2 : tie.Need-same-length-2
 same-length-2 c = search needs
@@ -58,10 +58,10 @@ same-length-7 c = search needs
 
 returns : tie.Need-returns
 returns c =
-    let s = c .before .before .before .before .before .before .before .before .before .before .before .before .before .before .before .before .before .before .before .before .before .before .before .before .before .before .before .before .before .before .before .before .before .before .before .before .before .before .before .before .before .before .before .before .before .before .before .before .before .before .before in
+    let s = c .before .before .before .before .before .before .before .before .before .before .before .before .before .before .before .before .before .before .before .before .before .before .before .before .before .before .before .before .before .before .before .before .before .before .before .before .before .before .before .before .before .before .before .before .before .before .before .before .before .before in
     let p = s .pre in
     let same = blocks-count (s .args .unit .now) (s .args .found) (p .0 .read) in
-    let n = c .before .before .before .before .before .before .before .before .before .before .before .before .before .before .before .before .before .before .before .before .before .before .before .before .before .before .before .before .before .before .before .before .note-blocks .ensures in
+    let n = c .before .before .before .before .before .before .before .before .before .before .before .before .before .before .before .before .before .before .before .before .before .before .before .before .before .before .before .before .before .before .before .note-blocks .ensures in
     let l = c .before .before .before .before .before .before .before .before .before .before .before .before .before .before .before .before .before .before .before .before .link .ensures in
     same-answers (tables-lowering 56 _ (p .0) (n .0) (linked (s .args .emitted .now) (p .0) (p .1) (n .0) (n .1) (sym same) (l .0) (l .1))) (c .before .before .before .before .before .before .compile-linked .ensures)
 

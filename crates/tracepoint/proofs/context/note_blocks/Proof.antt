@@ -26,19 +26,19 @@ loop-holds : tie.Need-loop-holds Inv-loop μ-loop
 loop-holds c = (start _ _ _ _ _ _ _ _, start _ _ _ _ _ _ _ _, refl, refl, refl)
 
 mul-note : tie.Need-mul-note Inv-loop μ-loop
-mul-note c = omega (arith, unit-of _ _ (c .before .before .before .before .before .before .before .before .before .before .before .before .before .before .pre .0) .bounds .blocks)
+mul-note c = omega (arith, unit-of _ _ (c .before .before .before .before .before .before .before .before .before .before .before .before .before .pre .0) .few-blocks)
 
 shared-slice-read-note : tie.Need-shared-slice-read-note Inv-loop μ-loop
-shared-slice-read-note c = omega (arith, c .before .before .before .before .before .before .before .before .before .before .before .before .before .before .before .pre .1 .1 .0)
+shared-slice-read-note c = omega (arith, c .before .before .before .before .before .before .before .before .before .before .before .before .before .before .pre .1 .1 .0)
 
 note-requires : tie.Need-note-requires Inv-loop μ-loop
 note-requires c κs =
-    let s = c .before .before .before .before .before .before .before .before .before .before .before .before .before .before .before in
+    let s = c .before .before .before .before .before .before .before .before .before .before .before .before .before .before in
     let l = c .before .before .before .before .before .before .loop .inv in
-    (s .pre .1 .0 .0 .few, omega (arith, unit-of _ _ (s .pre .0) .bounds .blocks), omega (arith, l .2, s .pre .1 .1 .1), omega (arith, l .3, s .pre .1 .1 .2), omega (arith, l .4, s .pre .1 .1 .3))
+    (s .pre .1 .0 .0 .few, omega (arith, unit-of _ _ (s .pre .0) .few-blocks), omega (arith, l .2, s .pre .1 .1 .1), omega (arith, l .3, s .pre .1 .1 .2), omega (arith, l .4, s .pre .1 .1 .3))
 
 add-k : tie.Need-add-k Inv-loop μ-loop
-add-k c = omega (arith, unit-of _ _ (c .before .before .before .before .before .before .before .before .before .before .before .before .before .before .before .before .before .before .before .before .before .before .pre .0) .bounds .blocks)
+add-k c = omega (arith, unit-of _ _ (c .before .before .before .before .before .before .before .before .before .before .before .before .before .before .before .before .before .before .before .before .before .pre .0) .few-blocks)
 
 loop-less : tie.Need-loop-less Inv-loop μ-loop
 loop-less c = omega arith
@@ -62,7 +62,7 @@ same-length-3 c = omega (arith, c .before .loop .inv .4)
 
 returns : tie.Need-returns Inv-loop μ-loop
 returns c =
-    let s = c .before .before .before .before .before .before .before .before .before .before in
+    let s = c .before .before .before .before .before .before .before .before .before in
     let l = c .before .loop .inv in
     let are = closings-at _ (s .args .found) _ (s .pre .0) (s .pre .1 .0 .1) in
     (at-end (l .0) (c .loop-test .left) are (s .pre .1 .0 .0) (s .pre .1 .0 .2), at-end (l .1) (c .loop-test .left) are (s .pre .1 .0 .0) (s .pre .1 .0 .2))

@@ -33,42 +33,42 @@ cast-n c = search needs
 
 put-requires : tie.Need-put-requires Inv-loop μ-loop
 put-requires c κs =
-    let s = c .before .before .before .before .before .before .before .before .before .before .before in
+    let s = c .before .before .before .before .before .before .before .before .before .before in
     first-room (s .args .unit .now) (s .args .found) (contextOf (s .args .variables .now) (s .args .hints .now) (s .args .marks .now)) (marked (s .args .emitted .now)) (s .pre .0) (s .pre .1 .1 .0) (s .pre .1 .1 .1 .1)
 
 loop-holds : tie.Need-loop-holds Inv-loop μ-loop
 loop-holds c =
-    let s = c .before .before .before .before .before .before .before .before .before .before .before .before .before .before in
+    let s = c .before .before .before .before .before .before .before .before .before .before .before .before .before in
     let same : length (c .before .before .put .last .0) ≡ length (s .args .code .now) = ap length (c .before .before .put .ensures) ∙ simp length-sets in
     (start (s .args .unit .now) (s .args .found) (contextOf (s .args .variables .now) (s .args .hints .now) (s .args .marks .now)) (marked (s .args .emitted .now)) (s .pre .0) (s .pre .1 .1 .0) (s .args .endings .now) _ _ (s .pre .1 .0 .1) (s .pre .1 .1 .1 .0) (rw same (s .pre .1 .1 .1 .1)), refl, refl)
 
 mul-end : tie.Need-mul-end Inv-loop μ-loop
-mul-end c = omega (arith, unit-of _ _ (c .before .before .before .before .before .before .before .before .before .before .before .before .before .before .before .before .pre .0) .bounds .blocks)
+mul-end c = omega (arith, unit-of _ _ (c .before .before .before .before .before .before .before .before .before .before .before .before .before .before .before .pre .0) .few-blocks)
 
 shared-slice-read-end : tie.Need-shared-slice-read-end Inv-loop μ-loop
-shared-slice-read-end c = let s = c .before .before .before .before .before .before .before .before .before .before .before .before .before .before .before .before .before in omega (arith, ends-room (s .args .unit .now) (s .args .found) (s .args .endings .now) (s .pre .0) (s .pre .1 .0 .1))
+shared-slice-read-end c = let s = c .before .before .before .before .before .before .before .before .before .before .before .before .before .before .before .before in omega (arith, ends-room (s .args .unit .now) (s .args .found) (s .args .endings .now) (s .pre .0) (s .pre .1 .0 .1))
 
 cast-end : tie.Need-cast-end Inv-loop μ-loop
 cast-end c =
     let x = next (c .before .before .loop .inv .0) (c .before .loop-test .taken) in
-    omega (arith, inside (x .writing), unit-of _ _ (c .before .before .before .before .before .before .before .before .before .before .before .before .before .before .before .before .before .pre .0) .short)
+    omega (arith, inside (x .writing), unit-of _ _ (c .before .before .before .before .before .before .before .before .before .before .before .before .before .before .before .before .pre .0) .short)
 
 add-put-block : tie.Need-add-put-block Inv-loop μ-loop
 add-put-block c =
     let x = next (c .before .before .before .loop .inv .0) (c .before .before .loop-test .taken) in
-    omega (arith, before (x .writing), inside (x .writing), unit-of _ _ (c .before .before .before .before .before .before .before .before .before .before .before .before .before .before .before .before .before .before .pre .0) .short)
+    omega (arith, before (x .writing), inside (x .writing), unit-of _ _ (c .before .before .before .before .before .before .before .before .before .before .before .before .before .before .before .before .before .pre .0) .short)
 
 put-block-requires : tie.Need-put-block-requires Inv-loop μ-loop
 put-block-requires c κs =
-    let s = c .before .before .before .before .before .before .before .before .before .before .before .before .before .before .before .before .before .before .before .before in
-    let few = unit-of _ _ (s .pre .0) .bounds .blocks in
+    let s = c .before .before .before .before .before .before .before .before .before .before .before .before .before .before .before .before .before .before .before in
+    let few = unit-of _ _ (s .pre .0) .few-blocks in
     let x = next (c .before .before .before .before .before .loop .inv .0) (c .before .before .before .before .loop-test .taken) in
     ((s .pre .1 .0 .0, inside (x .writing), unit-of _ _ (s .pre .0) .short, omega (arith, few), omega arith, omega arith), (room-block (x .writing), written (x .writing) .reach))
 
 add-at : tie.Need-add-at Inv-loop μ-loop
 add-at c =
     let x = next (c .before .before .before .before .before .before .before .before .before .before .loop .inv .0) (c .before .before .before .before .before .before .before .before .before .loop-test .taken) in
-    omega (arith, inside (x .writing), unit-of _ _ (c .before .before .before .before .before .before .before .before .before .before .before .before .before .before .before .before .before .before .before .before .before .before .before .before .before .pre .0) .short)
+    omega (arith, inside (x .writing), unit-of _ _ (c .before .before .before .before .before .before .before .before .before .before .before .before .before .before .before .before .before .before .before .before .before .before .before .before .pre .0) .short)
 
 get-u16-requires : tie.Need-get-u16-requires Inv-loop μ-loop
 get-u16-requires c κs = search needs
@@ -79,10 +79,10 @@ cast-at c = omega arith
 add-at-2 : tie.Need-add-at-2 Inv-loop μ-loop
 add-at-2 c =
     let x = next (c .before .before .before .before .before .before .before .before .before .before .before .loop .inv .0) (c .before .before .before .before .before .before .before .before .before .before .loop-test .taken) in
-    omega (arith, inside (x .writing), unit-of _ _ (c .before .before .before .before .before .before .before .before .before .before .before .before .before .before .before .before .before .before .before .before .before .before .before .before .before .before .pre .0) .short)
+    omega (arith, inside (x .writing), unit-of _ _ (c .before .before .before .before .before .before .before .before .before .before .before .before .before .before .before .before .before .before .before .before .before .before .before .before .before .pre .0) .short)
 
 add-k : tie.Need-add-k Inv-loop μ-loop
-add-k c = omega (arith, unit-of _ _ (c .before .before .before .before .before .before .before .before .before .before .before .before .before .before .before .before .before .before .before .before .before .before .before .before .before .before .pre .0) .bounds .blocks)
+add-k c = omega (arith, unit-of _ _ (c .before .before .before .before .before .before .before .before .before .before .before .before .before .before .before .before .before .before .before .before .before .before .before .before .before .pre .0) .few-blocks)
 
 loop-less : tie.Need-loop-less Inv-loop μ-loop
 loop-less c = omega arith
@@ -93,7 +93,7 @@ loop-again c =
     let l = c .before .before .before .before .before .before .before .before .before .before .before .loop in
     let x = next (l .inv .0) (c .before .before .before .before .before .before .before .before .before .before .loop-test .taken) in
     let put = c .before .before .before .before .before .put-block .ensures in
-    (passed x (put .0 _ (written (x .writing))) (put .1) (ap (λ (n : ℕ). getD (c .before .before .before .before .before .before .before .before .before .before .before .before .before .before .before .before .before .before .before .before .before .before .before .before .before .before .args .endings .now) (l .k) 0 + 4 + n) (c .get-u16 .ensures)), omega arith, omega arith)
+    (passed x (put .0 _ (written (x .writing))) (put .1) (ap (λ (n : ℕ). getD (c .before .before .before .before .before .before .before .before .before .before .before .before .before .before .before .before .before .before .before .before .before .before .before .before .before .args .endings .now) (l .k) 0 + 4 + n) (c .get-u16 .ensures)), omega arith, omega arith)
 
 same-length : tie.Need-same-length Inv-loop μ-loop
 same-length c = search needs
@@ -104,7 +104,7 @@ same-length-2 c = search needs
 returns : tie.Need-returns Inv-loop μ-loop
 unfolding opcodeOf
 returns c =
-    let s = c .before .before .before .before .before .before .before .before .before .before .before .before .before .before .before .before in
+    let s = c .before .before .before .before .before .before .before .before .before .before .before .before .before .before .before in
     unit-done (s .args .unit .now) (s .args .found) (contextOf (s .args .variables .now) (s .args .hints .now) (s .args .marks .now)) (marked (s .args .emitted .now)) (s .pre .0) (s .pre .1 .1 .0) (s .args .code .now) (s .args .relocs .now) (c .before .before .before .before .put .ensures) (done (c .before .loop .inv .0) (c .loop-test .left))
 
 pub write-unit-spec : {M : Type 1} → statement M
