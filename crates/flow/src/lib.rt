@@ -1,5 +1,6 @@
 // The flow of a unit's blocks: which are emitted, and which block a target means.
 // An id is found at its place in a table; keys are sorted and searched only where some block's id is not told by its place.
+use wire::range::wide32;
 ghost use mathlib.Core.Path.{_≡_};
 ghost use mathlib.Core.Bool.{true};
 ghost use mathlib.Core.List.{List};
@@ -174,12 +175,6 @@ fn push_targets(b: usize, counts: &[u8], targets: &[u32], pending: &mut [u32], k
     k + 2
 }
 
-fn wide(number: u32) -> usize
-    ensures { λ r. ⌜ r ≡ number ⌝ }
-{
-    number as usize
-}
-
 // Marks the blocks that are reached from the first: takes a pending one, skips it if it is marked or there is none, marks it and adds its targets.
 fn reach(
     n: usize,
@@ -196,7 +191,7 @@ fn reach(
     let mut k = 1;
     while 0 < k {
         k -= 1;
-        let b = wide(pending[k]);
+        let b = wide32(pending[k]);
         if b < n {
             if marks[b] == 0 {
                 marks[b] = 1;

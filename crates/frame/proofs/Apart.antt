@@ -1,38 +1,20 @@
 -- Cells never overlap: those of distinct variables, and those of the scratch ring; each lies in −512 to −8 on a multiple of 8.
 use mathlib.Core.Path.{_≡_, refl, sym, ap, _∙_}
 use mathlib.Core.Bool.{Bool, true, false}
-use mathlib.Core.Logic.{_⊎_, inl, inr, ⊎-elim}
+use mathlib.Core.Logic.{inl, inr, ⊎-elim}
 use mathlib.Core.List.{List, [], _∷_}
 use Prim.Native.Nat.{ℕ, suc, _+_, _-_, _*_, _%_, _<_, _≤_}
 use native.Mathlib.Nat.{mod-eq-of-lt, mod-lt, eq-or-lt-of-le, add-zero}
 use native.Mathlib.Omega.{arith}
 use borrow.Author.Tests.{eqb-true, lt-ltb, ltb-true, ltb-false}
 use lib.Dec.{eqb, ltb, le→leb}
-use lib.IntN.{ℤ, pos, negsuc, negℤ, _+ℤ_}
+use lib.IntN.{ℤ, pos, _+ℤ_}
 use lib.ListN.{length, getD}
 use lib.Signed.{_≤ℤ_}
 use Rattle.wire.specs.Pick.{pick}
 use Rattle.frame.specs.Cell.{offsetOf, cellFrom, frameOf}
-use Rattle.frame.specs.declared.Cell.{Cell}
-use Rattle.frame.specs.declared.Cell.the-variants.{At, Missing}
-
--- an offset of the frame: −8(i+1) with i below 64, that is a multiple of 8 from −512 to −8
-pub record InFrame (z : ℤ) : Type 0 where
-  pub number : ℕ
-  pub below : number < 64
-  pub is : z ≡ negℤ (pos (8 * suc number))
-
--- 8 bytes from a on, and 8 bytes from b on, none of them in both
-abbrev pub Apart : ℤ → ℤ → Type 0
-Apart a b = ((a +ℤ pos 8) ≤ℤ b) ⊎ ((b +ℤ pos 8) ≤ℤ a)
-
--- what holds of the frame of the variables vs, in whatever order they stand
-pub record Disjoint (vs : List ℕ) : Type 0 where
-  pub cell-inside : (v : ℕ) (a : ℤ) → frameOf vs .cell v ≡ At a → InFrame a
-  pub scratch-inside : (j : ℕ) → InFrame (frameOf vs .scratch j)
-  pub cells : (v w : ℕ) (a b : ℤ) → (v ≡ w → ⊥) → frameOf vs .cell v ≡ At a → frameOf vs .cell w ≡ At b → Apart a b
-  pub cell-scratch : (v j : ℕ) (a : ℤ) → frameOf vs .cell v ≡ At a → Apart a (frameOf vs .scratch j)
-  pub scratches : (j k : ℕ) → (j % 8 ≡ k % 8 → ⊥) → Apart (frameOf vs .scratch j) (frameOf vs .scratch k)
+use Rattle.frame.specs.Apart.{InFrame, Apart, Disjoint}
+use Rattle.frame.specs.declared.Cell.the-variants.{At}
 
 -- ---- offsets by their numbers
 

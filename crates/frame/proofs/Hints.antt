@@ -14,7 +14,8 @@ use Rattle.frame.specs.Hint.{indexFrom, guess, stands, indexBy, frameBy,
 use Rattle.frame.specs.declared.Cell.{Cell}
 use Rattle.frame.specs.declared.Cell.the-variants.{At}
 use Rattle.frame.proofs.Search.{cell-of-index, Stands, found-stands}
-use Rattle.frame.proofs.Sorted.{Sorted, index-there}
+use Rattle.frame.specs.Variables.{Sorted}
+use Rattle.frame.proofs.Sorted.{index-there}
 
 -- what a guess that is verified says
 stands-means : (vs : List ℕ) (i v : ℕ) → stands vs i v ≡ true → Stands vs i v

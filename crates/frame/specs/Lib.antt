@@ -1,3 +1,4 @@
 pub mod Variables
 pub mod Cell
 pub mod Hint
+pub mod Apart

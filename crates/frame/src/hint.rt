@@ -1,6 +1,7 @@
 // Where a variable stands, guessed: a table of 256 numbers, of which v % 256 picks the one to try. A guess that is wrong costs a search and changes no answer.
 use crate::Cell;
 use crate::cell_by_index;
+use wire::range::wide8;
 ghost use mathlib.Core.Path.{_≡_};
 ghost use Rattle.frame.specs.Hint.{indexFrom, indexBy, frameBy, hintsOf};
 
@@ -18,17 +19,11 @@ fn find(variables: &[u32], v: u32) -> usize
     i
 }
 
-fn wide(number: u8) -> usize
-    ensures { λ r. ⌜ r ≡ number ⌝ }
-{
-    number as usize
-}
-
 // The guess, where v stands there; else the first index of v, or the number of variables for none.
 pub fn index_at(variables: &[u32], hints: &[u8; 256], v: u32) -> usize
     ensures { λ r. ⌜ r ≡ indexBy (now (variables .entry)) (now (hints .entry)) v ⌝ }
 {
-    let guess = wide(hints[(v % 256) as usize]);
+    let guess = wide8(hints[(v % 256) as usize]);
     if guess < variables.len() {
         if v == variables[guess] {
             return guess;

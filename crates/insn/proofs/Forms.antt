@@ -3,7 +3,7 @@ use mathlib.Core.Path.{_≡_, refl, sym, ap, _∙_}
 use mathlib.Core.Bool.{Bool, true, false}
 use mathlib.Core.Logic.{_↔_, _≢_}
 use mathlib.Core.List.{List, [], _∷_}
-use Prim.Native.Nat.{ℕ, zero, suc, _+_, _*_, _/_, _%_, _<_, _≤_}
+use Prim.Native.Nat.{ℕ, _+_, _*_, _/_, _%_, _<_, _≤_}
 use native.Mathlib.Omega.{arith}
 use lib.Dec.{T, eqb, ltb, eqb→eq}
 use lib.ListN.{getD, List·getD-eq-default}
@@ -11,7 +11,7 @@ use borrow.Author.Tests.{eqb-true, ltb-true, ltb-false}
 use Rattle.wire.specs.Pick.{pick}
 use Rattle.ir.specs.declared.BinaryOp.the-variants.{Add, Sub, Mul, Div, Mod, Shl, Shr}
 use Rattle.insn.specs.Rfc.{operationOf, sizeField}
-use Rattle.insn.specs.Form.{opcodeOf, formOf, numberOf, sizes, withConstant, withRegister, jumps}
+use Rattle.insn.specs.Form.{opcodeOf, formOf, numberOf, formsBelow, sizes, withConstant, withRegister, jumps}
 use Rattle.insn.specs.declared.form.Size.the-variants.{W, H, B, Dw}
 use Rattle.insn.specs.declared.form.Form.{Form}
 use Rattle.insn.specs.declared.form.Form.the-variants.{NoForm, WideLoad, Ldx, Stx, AluImm, AluReg, MovImm, MovReg, Ja, JeqImm, JneImm, Call, Exit}
@@ -111,33 +111,8 @@ form-exact c h f n = (
   λ (e : c ≡ opcodeOf f). ap formOf e ∙ form-opcode f,
 )
 
--- the opcodes of the source's constants
-pub constants : (opcodeOf WideLoad ≡ 0x18) × (opcodeOf Call ≡ 0x85) × (opcodeOf Exit ≡ 0x95) × (opcodeOf Ja ≡ 0x05) × (opcodeOf JeqImm ≡ 0x15) × (opcodeOf JneImm ≡ 0x55) × (opcodeOf MovImm ≡ 0xb7) × (opcodeOf MovReg ≡ 0xbf)
-unfolding opcodeOf sizeField
-constants = (refl, refl, refl, refl, refl, refl, refl, refl)
-
-unfoldable pub isForm : Form → Bool
-isForm NoForm = false
-isForm WideLoad = true
-isForm (Ldx s) = true
-isForm (Stx s) = true
-isForm (AluImm o) = true
-isForm (AluReg o) = true
-isForm MovImm = true
-isForm MovReg = true
-isForm Ja = true
-isForm JeqImm = true
-isForm JneImm = true
-isForm Call = true
-isForm Exit = true
-
--- how many numbers below n pass a test
-unfoldable pub count : (ℕ → Bool) → ℕ → ℕ
-count p zero = 0
-count p (suc n) = pick (p n) 1 0 + count p n
-
-pub thirty : count (λ (c : ℕ). isForm (formOf c)) 256 ≡ 30
-unfolding count isForm formOf sizes withConstant withRegister jumps sizeField
+pub thirty : formsBelow 256 ≡ 30
+unfolding formsBelow formOf numberOf sizes withConstant withRegister jumps sizeField
 thirty = refl
 
 -- ---- the table

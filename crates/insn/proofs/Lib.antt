@@ -4,3 +4,4 @@ pub mod Widths
 pub mod Pieces
 pub mod RoundTrip
 pub mod Words
+pub mod Helpers

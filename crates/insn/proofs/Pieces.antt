@@ -1,19 +1,16 @@
 -- An instruction's 8 bytes, read from a part of the code and written.
 use mathlib.Core.Path.{_≡_, refl, sym, ap, _∙_}
-use mathlib.Core.Bool.{Bool, true, false}
 use mathlib.Core.List.{List, _++_, append-nil}
-use Prim.Native.Nat.{ℕ, _+_, _-_, _/_, _%_, _<_, _≤_}
-use native.Mathlib.Nat.{add-zero, add-assoc}
+use Prim.Native.Nat.{ℕ, _+_, _-_, _/_, _%_, _<_}
+use native.Mathlib.Nat.{add-zero}
 use native.Mathlib.Omega.{arith}
-use borrow.Author.Tests.{leb-true, leb-false}
-use lib.Dec.{leb}
 use lib.IntN.{ℤ, pos}
 use lib.ListN.{length, getD, take, drop, length-drop, drop-of-length-le, List·getD-eq-default}
 use lib.Seq.{take-all, getD-drop}
-use mir.Syntax.{Width, w16, w32}
-use mir.Val.{toZ}
-use Rattle.wire.specs.Le.{octets, byteAt, bytesOf as lowest, unsignedAt, signedAt, unsignedBytes, signedBytes, store}
-use Rattle.wire.proofs.Le.{le-same, unsigned-in, unsigned-out}
+use mir.Syntax.{w16, w32}
+use Rattle.wire.specs.Le.{byteAt, bytesOf as lowest, signedAt, unsignedBytes, signedBytes, store}
+use Rattle.wire.proofs.Le.{unsigned-out}
+use Rattle.wire.proofs.Part.{signed-drop}
 use Rattle.wire.proofs.Store.{store-parts, store-out}
 use Rattle.insn.specs.Layout.{bytesOf, insnAt}
 use Rattle.insn.specs.declared.Insn.{Insn}
@@ -24,35 +21,20 @@ bytes-length i = refl
 
 -- ---- reading
 
--- a number of a part is the number of the whole
-signed-drop : (w : Width) (b : List ℕ) (k i : ℕ) → k ≤ length b → signedAt w (drop k b) i ≡ signedAt w b (k + i)
-unfolding signedAt
-signed-drop w b k i h = ap (toZ w) (go (leb (k + i + octets w) (length b)) refl)
-  where
-    go : (t : Bool) → leb (k + i + octets w) (length b) ≡ t → unsignedAt w (drop k b) i ≡ unsignedAt w b (k + i)
-    go true e =
-        let l : k + i + octets w ≤ length b = leb-true _ _ e in
-        unsigned-in w (drop k b) i (simp length-drop (omega arith))
-        ∙ le-same (octets w) (drop k b) b i (k + i) (λ j _. getD-drop k b (i + j) 0 ∙ simp add-assoc)
-        ∙ sym (unsigned-in w b (k + i) l)
-    go false e =
-        let l : length b < k + i + octets w = leb-false _ _ e in
-        unsigned-out w (drop k b) i (simp length-drop (omega arith)) ∙ sym (unsigned-out w b (k + i) l)
-
 -- the part from at on, as the code lends it
 abbrev pub part : List ℕ → ℕ → List ℕ
 part b at = take (length b - at) (drop at b)
 
-pub insn-part : (b : List ℕ) (at : ℕ) → at ≤ length b → {code registers : ℕ} {off imm : ℤ}
+pub insn-part : (b : List ℕ) (at : ℕ) {code registers : ℕ} {off imm : ℤ}
     → code ≡ byteAt (part b at) 0 → registers ≡ byteAt (part b at) 1 → off ≡ signedAt w16 (part b at) 2 → imm ≡ signedAt w32 (part b at) 4
     → record { code = code; dst = registers % 16; src = registers / 16; off = off; imm = imm } ≡ insnAt b at
 unfolding insnAt
-insn-part b at h c r o m =
+insn-part b at c r o m =
     let whole = take-all (length b - at) (drop at b) (simp length-drop (omega arith)) in
     let code = (rw whole at c) ∙ getD-drop at b 0 0 ∙ ap (λ (k : ℕ). getD b k 0) (add-zero at) in
     let registers = (rw whole at r) ∙ getD-drop at b 1 0 in
-    let off = (rw whole at o) ∙ signed-drop w16 b at 2 h in
-    let imm = (rw whole at m) ∙ signed-drop w32 b at 4 h in
+    let off = (rw whole at o) ∙ signed-drop b at 2 w16 in
+    let imm = (rw whole at m) ∙ signed-drop b at 4 w32 in
     λ j. record { code = code j; dst = registers j % 16; src = registers j / 16; off = off j; imm = imm j }
 
 pub insn-past : (b : List ℕ) (at : ℕ) → length b < at → insnAt b at ≡ record { code = 0; dst = 0; src = 0; off = pos 0; imm = pos 0 }

@@ -6,20 +6,12 @@ use native.Mathlib.Omega.{arith}
 use lib.ListN.{length, getD, take, drop, length-drop, take-append-drop}
 use lib.Seq.{drop-cons, drop-drop, take-all}
 use mir.Syntax.{w16, w32}
-use mir.Val.{SFits}
-use Rattle.wire.specs.Le.{bytesOf as lowest, unsignedBytes, signedBytes}
-use Rattle.wire.proofs.Le.{Bytes, signed-of-bytes, bytes-of-signed}
-use Rattle.insn.specs.Layout.{bytesOf, insnAt, decoded}
+use Rattle.wire.specs.Le.{Bytes, bytesOf as lowest, unsignedBytes, signedBytes}
+use Rattle.wire.proofs.Le.{signed-of-bytes, bytes-of-signed}
+use Rattle.insn.specs.Layout.{Fields, bytesOf, insnAt, decoded}
 use Rattle.insn.specs.declared.Insn.{Insn}
 use Rattle.insn.specs.declared.Decoded.the-variants as D
 use Rattle.insn.proofs.Pieces.{bytes-length}
-
--- registers 0 to 15, an offset of 16 bits and an imm of 32
-pub record Fields (i : Insn) : Type 0 where
-  pub dst : i .dst < 16
-  pub src : i .src < 16
-  pub off : SFits w16 (i .off)
-  pub imm : SFits w32 (i .imm)
 
 nibbles : (a b : ℕ) → a < 16 → b < 16 → ((a % 16 + 16 * (b % 16)) % 16 ≡ a) × ((a % 16 + 16 * (b % 16)) / 16 ≡ b)
 nibbles a b h l =

@@ -8,10 +8,7 @@ use native.Mathlib.Nat.{add-zero, add-suc, suc-add, eq-or-lt-of-le}
 use native.Mathlib.Omega.{arith}
 use lib.Dec.{T}
 use lib.ListN.{getD}
-use Rattle.wire.specs.Pick.{pick}
-
-abbrev both : Bool → Bool → Bool
-both a b = pick a b false
+use Rattle.wire.specs.Pick.{both}
 
 both-left : (a b : Bool) → T (both a b) → T a
 both-left true b t = tt

@@ -8,12 +8,12 @@ use lib.Seq.{take-all}
 use mir.Syntax.{w16, w32, w64}
 use mir.Val.{SFits, ofZ}
 use mir.ValLaws.{ofZ-fits}
-use Rattle.wire.specs.Le.{le, bytesOf as lowest, unsignedBytes, signedBytes}
-use Rattle.wire.proofs.Le.{Bytes, bytes-append, le-split, signed-bytes, unsigned-bytes, unsigned-length, unsigned-in, unsigned-of-bytes, bytes-of-unsigned}
-use Rattle.insn.specs.Layout.{bytesOf, insnAt, wordOf, insnOf}
+use Rattle.wire.specs.Le.{Bytes, le, bytesOf as lowest, unsignedBytes, signedBytes}
+use Rattle.wire.proofs.Le.{bytes-append, le-split, signed-bytes, unsigned-bytes, unsigned-length, unsigned-in, unsigned-of-bytes, bytes-of-unsigned}
+use Rattle.insn.specs.Layout.{Fields, bytesOf, insnAt, wordOf, insnOf}
 use Rattle.insn.specs.declared.Insn.{Insn}
 use Rattle.insn.proofs.Pieces.{bytes-length}
-use Rattle.insn.proofs.RoundTrip.{Fields, insn-of-bytes, encode-decode}
+use Rattle.insn.proofs.RoundTrip.{insn-of-bytes, encode-decode}
 
 -- ---- the number from the fields
 

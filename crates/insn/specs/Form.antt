@@ -1,6 +1,6 @@
 -- The forms of an instruction that this back end knows, and the opcode byte of each.
 use mathlib.Core.List.{List, [], _∷_}
-use Prim.Native.Nat.{ℕ, _+_}
+use Prim.Native.Nat.{ℕ, zero, suc, _+_}
 use lib.Dec.{eqb}
 use lib.ListN.{getD}
 use Rattle.wire.specs.Pick.{pick}
@@ -14,9 +14,9 @@ use Rattle.insn.specs.declared.form.Form.the-variants.{NoForm, WideLoad,
 use Rattle.insn.specs.declared.MemCode.{MemCode}
 use Rattle.insn.specs.declared.MemCode.the-variants.{Code, Unsupported}
 
--- the opcode byte of a form; NoForm has none, and stands past the last byte
+-- the opcode byte of a form; 0, which is no form's, for NoForm
 unfoldable pub opcodeOf : Form → ℕ
-opcodeOf NoForm = 256
+opcodeOf NoForm = 0
 opcodeOf WideLoad = memByte LD (sizeField Dw) IMM
 opcodeOf (Ldx s) = memByte LDX (sizeField s) MEM
 opcodeOf (Stx s) = memByte STX (sizeField s) MEM
@@ -78,6 +78,11 @@ numberOf JeqImm = 27
 numberOf JneImm = 28
 numberOf Call = 29
 numberOf Exit = 30
+
+-- how many of the first n bytes have a form
+unfoldable pub formsBelow : ℕ → ℕ
+formsBelow zero = 0
+formsBelow (suc c) = pick (eqb (numberOf (formOf c)) 0) 0 1 + formsBelow c
 
 -- the opcode byte of a load (class LDX) or store (class STX) of so many bytes
 unfoldable pub memCode : ℕ → ℕ → MemCode

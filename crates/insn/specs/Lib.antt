@@ -1,3 +1,4 @@
 pub mod Layout
 pub mod Rfc
 pub mod Form
+pub mod Helper

@@ -1,13 +1,16 @@
 // One eBPF instruction: its fields, its 8 bytes, its opcodes.
 pub mod form;
+pub mod helper;
 
+use form::Form;
+use form::Size;
 use ir::BinaryOp;
 ghost use mathlib.Core.Path.{_≡_};
 ghost use Prim.Native.Nat.{_<_};
 ghost use Rattle.wire.specs.Le.{store};
 ghost use Rattle.insn.specs.Layout.{bytesOf, insnAt, wordOf, decoded, encodedAnswer, encodedBytes};
-ghost use Rattle.insn.specs.Rfc.{ALU64, LDX, STX, K, X, operationOf, aluByte};
-ghost use Rattle.insn.specs.Form.{memCode};
+ghost use Rattle.insn.specs.Rfc.{ALU64, LDX, STX, K, X, MEM, operationOf, sizeField, aluByte, memByte};
+ghost use Rattle.insn.specs.Form.{opcodeOf, memCode};
 
 pub struct Insn {
     pub code: u8,
@@ -153,6 +156,15 @@ pub fn alu64_reg(op: BinaryOp) -> u8
     alu64_imm(op) + 0x08
 }
 
+// Mode MEM and a size, which with the class are the opcode of a load or store.
+const MEM_W: u8 = 0x60;
+
+const MEM_H: u8 = 0x68;
+
+const MEM_B: u8 = 0x70;
+
+const MEM_DW: u8 = 0x78;
+
 // The opcode of a load or store of so many bytes.
 pub enum MemCode {
     Code(u8),
@@ -164,10 +176,10 @@ fn mem(class: u8, bytes: u8) -> MemCode
     ensures { λ r. ⌜ r ≡ memCode class bytes ⌝ }
 {
     match bytes {
-        1 => MemCode::Code(class + 0x70),
-        2 => MemCode::Code(class + 0x68),
-        4 => MemCode::Code(class + 0x60),
-        8 => MemCode::Code(class + 0x78),
+        1 => MemCode::Code(class + MEM_B),
+        2 => MemCode::Code(class + MEM_H),
+        4 => MemCode::Code(class + MEM_W),
+        8 => MemCode::Code(class + MEM_DW),
         _ => MemCode::Unsupported,
     }
 }
@@ -182,4 +194,38 @@ pub fn stx_mem(bytes: u8) -> MemCode
     ensures { λ r. ⌜ r ≡ memCode STX bytes ⌝ }
 {
     mem(3, bytes)
+}
+
+// ---- the opcode of a form
+
+fn sized(class: u8, size: Size) -> u8
+    requires { ⌜ class < 8 ⌝ }
+    ensures { λ r. ⌜ r ≡ memByte class (sizeField size) MEM ⌝ }
+{
+    match size {
+        Size::W => class + MEM_W,
+        Size::H => class + MEM_H,
+        Size::B => class + MEM_B,
+        Size::Dw => class + MEM_DW,
+    }
+}
+
+pub fn opcode_of(f: Form) -> u8
+    ensures { λ r. ⌜ r ≡ opcodeOf f ⌝ }
+{
+    match f {
+        Form::NoForm => 0,
+        Form::WideLoad => BPF_LD_DW_IMM,
+        Form::Ldx(s) => sized(1, s),
+        Form::Stx(s) => sized(3, s),
+        Form::AluImm(op) => alu64_imm(op),
+        Form::AluReg(op) => alu64_reg(op),
+        Form::MovImm => BPF_MOV64_IMM,
+        Form::MovReg => BPF_MOV64_REG,
+        Form::Ja => BPF_JA,
+        Form::JeqImm => BPF_JEQ_IMM,
+        Form::JneImm => BPF_JNE_IMM,
+        Form::Call => BPF_CALL,
+        Form::Exit => BPF_EXIT,
+    }
 }

@@ -9,8 +9,7 @@ use insn::Insn;
 use insn::form::Form;
 use libc::STDIN_FILENO;
 use libc::STDOUT_FILENO;
-ghost use mathlib.Core.Path.{_≡_};
-ghost use Prim.Native.Nat.{min};
+use wire::range::least;
 
 // A wide load has two slots: the first waits for the second.
 enum Waiting {
@@ -66,12 +65,6 @@ fn slot(waiting: Waiting, b: &[u8]) -> Waiting {
             Waiting::Nothing
         }
     }
-}
-
-fn least(a: usize, b: usize) -> usize
-    ensures { λ r. ⌜ r ≡ min a b ⌝ }
-{
-    if a < b { a } else { b }
 }
 
 fn each_slot(code: &[u8]) {

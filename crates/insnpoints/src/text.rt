@@ -10,6 +10,7 @@ use crate::operand::signed;
 use insn::Insn;
 use insn::form::Form;
 use insn::form::Size;
+use insn::form::form_of;
 use ir::BinaryOp;
 
 fn operation(line: &mut [u8], at: usize, op: BinaryOp) -> usize {
@@ -123,8 +124,15 @@ pub(crate) fn one_slot(line: &mut [u8], at: usize, f: Form, i: Insn) -> usize {
     }
 }
 
-// The bytes into which the fields are encoded.
+// The bytes into which the form's opcode and the other fields are encoded. A wide load's second slot has no form, and opcode 0.
 pub(crate) fn slot(line: &mut [u8], at: usize, i: Insn) -> usize {
-    let b = i.to_le_bytes();
+    let encoded = Insn {
+        code: insn::opcode_of(form_of(i.code)),
+        dst: i.dst,
+        src: i.src,
+        off: i.off,
+        imm: i.imm,
+    };
+    let b = encoded.to_le_bytes();
     octets(line, at, &b)
 }

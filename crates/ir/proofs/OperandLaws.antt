@@ -6,8 +6,8 @@ use native.Mathlib.Omega.{arith}
 use lib.ListN.{length}
 use Rattle.ir.specs.Operands.{listOf, pushed, firstOf, restOf}
 use Rattle.ir.specs.declared.Operand.{Operand}
-use Rattle.ir.specs.declared.operands.Head.{Head}
-use Rattle.ir.specs.declared.operands.Head.the-variants as H
+use Rattle.ir.specs.declared.operands.Front.{Front}
+use Rattle.ir.specs.declared.operands.Front.the-variants as H
 use Rattle.ir.specs.declared.operands.Operands.{Operands}
 use Rattle.ir.specs.declared.operands.Operands.the-variants.{Zero, One, Two, Three, Four, Five, Six, Seven, Eight}
 
@@ -36,7 +36,7 @@ pushed-last (Seven a b c d e f g) o room = refl
 pushed-last (Eight a b c d e f g h) o room = absurd (omega arith)
 
 -- what a list begins with, by the answer of `firstOf`
-abbrev Begins : Operands → Head → Type 0
+abbrev Begins : Operands → Front → Type 0
 Begins l H.Nothing = listOf l ≡ []
 Begins l (H.Is a) = listOf l ≡ a ∷ listOf (restOf l)
 

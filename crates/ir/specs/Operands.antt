@@ -1,8 +1,8 @@
 -- An instruction's operands as a list.
 use mathlib.Core.List.{List, [], _∷_}
 use Rattle.ir.specs.declared.Operand.{Operand}
-use Rattle.ir.specs.declared.operands.Head.{Head}
-use Rattle.ir.specs.declared.operands.Head.the-variants.{Is, Nothing}
+use Rattle.ir.specs.declared.operands.Front.{Front}
+use Rattle.ir.specs.declared.operands.Front.the-variants.{Is, Nothing}
 use Rattle.ir.specs.declared.operands.Operands.{Operands}
 use Rattle.ir.specs.declared.operands.Operands.the-variants.{Zero, One, Two, Three, Four, Five, Six, Seven, Eight}
 
@@ -30,7 +30,7 @@ pushed (Seven a b c d e f g) o = Eight a b c d e f g o
 pushed (Eight a b c d e f g h) o = Eight a b c d e f g h
 
 -- the first operand, and those after it
-unfoldable pub firstOf : Operands → Head
+unfoldable pub firstOf : Operands → Front
 firstOf Zero = Nothing
 firstOf (One a) = Is a
 firstOf (Two a b) = Is a

@@ -50,24 +50,24 @@ pub fn push(list: Operands, o: Operand) -> Operands
 }
 
 // What stands first among the operands.
-pub enum Head {
+pub enum Front {
     Is(Operand),
     Nothing,
 }
 
-pub fn first(list: Operands) -> Head
+pub fn first(list: Operands) -> Front
     ensures { λ r. ⌜ r ≡ firstOf list ⌝ }
 {
     match list {
-        Operands::Zero => Head::Nothing,
-        Operands::One(a) => Head::Is(a),
-        Operands::Two(a, _) => Head::Is(a),
-        Operands::Three(a, _, _) => Head::Is(a),
-        Operands::Four(a, _, _, _) => Head::Is(a),
-        Operands::Five(a, _, _, _, _) => Head::Is(a),
-        Operands::Six(a, _, _, _, _, _) => Head::Is(a),
-        Operands::Seven(a, _, _, _, _, _, _) => Head::Is(a),
-        Operands::Eight(a, _, _, _, _, _, _, _) => Head::Is(a),
+        Operands::Zero => Front::Nothing,
+        Operands::One(a) => Front::Is(a),
+        Operands::Two(a, _) => Front::Is(a),
+        Operands::Three(a, _, _) => Front::Is(a),
+        Operands::Four(a, _, _, _) => Front::Is(a),
+        Operands::Five(a, _, _, _, _) => Front::Is(a),
+        Operands::Six(a, _, _, _, _, _) => Front::Is(a),
+        Operands::Seven(a, _, _, _, _, _, _) => Front::Is(a),
+        Operands::Eight(a, _, _, _, _, _, _, _) => Front::Is(a),
     }
 }
 

@@ -13,7 +13,7 @@ use mir.Syntax.{w64}
 use mir.Val.{SFits, toZ, ofZ}
 use mir.ValLaws.{toZ-ofZ, toZ-pos}
 use Rattle.wire.specs.Pick.{pick}
-use Rattle.lower.specs.Operand.{fits16}
+use Rattle.wire.specs.Range.{fits16}
 use Rattle.layout.specs.Jumps.{Jump, to, nowhere, distance, onTarget}
 use Rattle.jumps.specs.Landed.{marked, landedOf}
 use Rattle.jumps.specs.declared.Landed.the-variants as L

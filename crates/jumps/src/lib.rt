@@ -48,13 +48,10 @@ fn land(emitted: &[u8], edges: &[u32], place: u32, own: u32, id: u32, number: u3
     let number = number as usize;
     if wire::get_u8(emitted, number) == 1 {
         let far = distance(SlotNumber(number_at(edges, number)), SlotNumber(own));
-        if far < -32768 {
-            return Landed::TooFar(place as usize, id);
+        if wire::range::fits16(far) {
+            return Landed::Lands;
         }
-        if far > 32767 {
-            return Landed::TooFar(place as usize, id);
-        }
-        return Landed::Lands;
+        return Landed::TooFar(place as usize, id);
     }
     Landed::NoTarget(place as usize, id)
 }

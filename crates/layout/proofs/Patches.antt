@@ -7,6 +7,7 @@ use native.Mathlib.Nat.{add-assoc}
 use native.Mathlib.Omega.{arith}
 use lib.IntN.{ℤ, pos}
 use Rattle.wire.specs.Pick.{pick}
+use Rattle.wire.specs.Range.{fits32}
 use Rattle.ir.specs.declared.Operand.{Operand}
 use Rattle.ir.specs.declared.Operand.the-variants.{Var, Immediate}
 use Rattle.ir.specs.declared.Terminator.{Terminator}
@@ -18,7 +19,7 @@ use Rattle.frame.specs.declared.Cell.{Cell}
 use Rattle.frame.specs.declared.Cell.the-variants.{At, Missing}
 use Rattle.unitfile.specs.Unit.{BasicBlock}
 use Rattle.lower.specs.Op.{plain, ja, jne, Lowered, becomes, refused, insn, _▸_, slotsOf}
-use Rattle.lower.specs.Operand.{fits32, constant, onCell, load}
+use Rattle.lower.specs.Operand.{constant, onCell, load}
 use Rattle.lower.specs.Terminator.{terminator}
 use Rattle.lower.specs.declared.Reason.{Reason}
 use Rattle.layout.specs.Layout.{Context, Laid, at, ops, slots, instructions, block}

@@ -8,6 +8,7 @@ use lib.Dec.{eqb}
 use lib.IntN.{ℤ, pos}
 use lib.ListN.{length, length-append}
 use Rattle.wire.specs.Pick.{pick, either}
+use Rattle.wire.specs.Range.{fits16, fits32}
 use Rattle.ir.specs.Operands.{listOf}
 use Rattle.ir.specs.declared.BinaryOp.{BinaryOp}
 use Rattle.ir.specs.declared.Operand.{Operand}
@@ -25,7 +26,7 @@ use Rattle.frame.specs.Cell.{Frame}
 use Rattle.frame.specs.declared.Cell.{Cell}
 use Rattle.frame.specs.declared.Cell.the-variants.{At, Missing}
 use Rattle.lower.specs.Op.{Op, plain, Lowered, becomes, refused, insn, _▸_}
-use Rattle.lower.specs.Operand.{fits16, fits32, constant, move, add, call, onCell, load, addr, next, keep, mapAddress}
+use Rattle.lower.specs.Operand.{constant, move, add, call, onCell, load, addr, next, keep, mapAddress}
 use Rattle.lower.specs.Instruction.{onFirst, onTwo, onThree, onNone, sized, mem, operate, fromContext, helperCall, nullCheck, opcode, instruction}
 use Rattle.lower.specs.Step.{mapOps}
 use Rattle.lower.specs.declared.Reason.{Reason}

@@ -6,8 +6,9 @@ use Rattle.wire.specs.Number.{bytesBefore}
 use Rattle.insn.specs.Form.{opcodeOf}
 use Rattle.insn.specs.Layout.{bytesOf}
 use Rattle.insn.specs.declared.Insn.{Insn}
-use Rattle.insn.specs.declared.form.Form.the-variants.{WideLoad, Ja, JneImm}
+use Rattle.insn.specs.declared.form.Form.the-variants.{Ja, JneImm}
 use Rattle.lower.specs.Op.{Op, plain, map, ja, jne}
+use Rattle.lower.specs.Put.{wideInsn, zeroInsn}
 use Rattle.layout.specs.Jumps.{Start, Target, to, nowhere, lastStart, distance}
 
 -- the distance to the last emitted block with an id
@@ -15,14 +16,11 @@ unfoldable pub distanceTo : Target → ℕ → ℤ
 distanceTo (to s) own = distance s own
 distanceTo nowhere own = pos 0
 
--- the instructions of operations from slot s on. "Map": 0x18 with dst R1, src 1, all else zero, then a zero slot
+-- the instructions of operations from slot s on
 unfoldable pub insns : List Start → ℕ → List Op → List Insn
 insns xs s [] = []
 insns xs s (plain i ∷ l) = i ∷ insns xs (suc s) l
-insns xs s (map m ∷ l) =
-    record { code = opcodeOf WideLoad; dst = 1; src = 1; off = pos 0; imm = pos 0 }
-    ∷ record { code = 0; dst = 0; src = 0; off = pos 0; imm = pos 0 }
-    ∷ insns xs (s + 2) l
+insns xs s (map m ∷ l) = wideInsn ∷ zeroInsn ∷ insns xs (s + 2) l
 insns xs s (ja id ∷ l) =
     record { code = opcodeOf Ja; dst = 0; src = 0; off = distanceTo (lastStart xs id) s; imm = pos 0 } ∷ insns xs (suc s) l
 insns xs s (jne id ∷ l) =

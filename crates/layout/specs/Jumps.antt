@@ -4,9 +4,9 @@ use mathlib.Core.List.{List, [], _∷_, _++_}
 use lib.Dec.{eqb}
 use lib.IntN.{ℤ, pos, _-ℤ_}
 use Rattle.wire.specs.Pick.{pick}
+use Rattle.wire.specs.Range.{fits16}
 use Rattle.unitfile.specs.Unit.{BasicBlock}
 use Rattle.lower.specs.Op.{Op, plain, map, ja, jne}
-use Rattle.lower.specs.Operand.{fits16}
 use Rattle.lower.specs.Terminator.{terminator}
 use Rattle.layout.specs.Layout.{Context, at, ops, slots, instructions, scratchThrough, block}
 

@@ -1,31 +1,24 @@
 -- Which opcode a payload has, by its code, and what becomes of the instruction then.
 use mathlib.Core.Path.{_≡_, refl, sym, _∙_}
-use mathlib.Core.Bool.{Bool, true, false}
+use mathlib.Core.Bool.{Bool}
 use mathlib.Core.List.{List}
-use Prim.Native.Nat.{ℕ}
-use borrow.Author.Tests.{ne-eqb}
-use lib.Dec.{eqb}
+use Prim.Native.Nat.{ℕ, zero, suc}
 use lib.ListN.{getD}
 use mir.Syntax.{w32}
-use Rattle.wire.specs.Pick.{pick}
 use Rattle.wire.specs.Le.{byteAt, unsignedAt}
 use Rattle.ir.specs.declared.BinaryOp.the-variants.{Add}
 use Rattle.ir.specs.declared.Operand.{Operand}
 use Rattle.ir.specs.declared.Opcode.{Opcode}
 use Rattle.ir.specs.declared.Opcode.the-variants as C
 use Rattle.operand.specs.Operand.{operandsIn}
-use Rattle.opcode.specs.Opcode.{operations, mapOf, opcodeIn}
+use Rattle.opcode.specs.Opcode.{operations, mapOf, opcodes, opcodeIn}
 use Rattle.opcode.specs.declared.Fields.{Fields}
-use Rattle.record.specs.Instruction.{fieldsAt}
+use Rattle.record.specs.Instruction.{fieldsIn}
 use Rattle.frame.specs.Cell.{Frame}
 use Rattle.lower.specs.Instruction.{opcode, scratchBy}
 use Rattle.lower.specs.Payload.{operandsOf, instructionIn, scratchIn}
 
 -- ---- by the code
-
-same : (t : Bool) {o : Opcode} → pick t o o ≡ o
-same true = refl
-same false = refl
 
 module _ (f : Fields) {code : ℕ} (e : code ≡ f .code) where
   pub is-helper-call : code ≡ 1 → opcodeIn f ≡ C.HelperCall (f .number)
@@ -72,29 +65,32 @@ module _ (f : Fields) {code : ℕ} (e : code ≡ f .code) where
   unfolding opcodeIn
   is-submit h = rw (sym e ∙ h)
 
-  pub is-load-key : (code ≡ 1 → ⊥) → (code ≡ 3 → ⊥) → (code ≡ 4 → ⊥) → (code ≡ 5 → ⊥) → (code ≡ 6 → ⊥) → (code ≡ 7 → ⊥) → (code ≡ 8 → ⊥) → (code ≡ 9 → ⊥) → (code ≡ 10 → ⊥) → (code ≡ 11 → ⊥) → (code ≡ 12 → ⊥)
-      → opcodeIn f ≡ C.LoadKey
-  unfolding opcodeIn
-  is-load-key n1 n3 n4 n5 n6 n7 n8 n9 n10 n11 n12 =
-      rw (← e, ne-eqb code 1 n1, ne-eqb code 3 n3, ne-eqb code 4 n4, ne-eqb code 5 n5, ne-eqb code 6 n6, ne-eqb code 7 n7, ne-eqb code 8 n8, ne-eqb code 9 n9, ne-eqb code 10 n10, ne-eqb code 11 n11, ne-eqb code 12 n12)
-      (same (eqb code 2))
-
   -- all but CallMap and UpdateMap leave the scratch position
   module _ (j : ℕ) (os : List Operand) where
-    either-stays : (t : Bool) (x y : Opcode) → scratchBy j x os ≡ j → scratchBy j y os ≡ j → scratchBy j (pick t x y) os ≡ j
-    either-stays true x y h k = h
-    either-stays false x y h k = k
+    stays-at : (n : ℕ) → (n ≡ 9 → ⊥) → (n ≡ 10 → ⊥) → scratchBy j (getD (opcodes f) n C.LoadKey) os ≡ j
+    unfolding scratchBy
+    stays-at zero n9 n10 = refl
+    stays-at (suc zero) n9 n10 = refl
+    stays-at (suc (suc zero)) n9 n10 = refl
+    stays-at (suc (suc (suc zero))) n9 n10 = refl
+    stays-at (suc (suc (suc (suc zero)))) n9 n10 = refl
+    stays-at (suc (suc (suc (suc (suc zero))))) n9 n10 = refl
+    stays-at (suc (suc (suc (suc (suc (suc zero)))))) n9 n10 = refl
+    stays-at (suc (suc (suc (suc (suc (suc (suc zero))))))) n9 n10 = refl
+    stays-at (suc (suc (suc (suc (suc (suc (suc (suc zero)))))))) n9 n10 = refl
+    stays-at (suc (suc (suc (suc (suc (suc (suc (suc (suc zero))))))))) n9 n10 = absurd (n9 refl)
+    stays-at (suc (suc (suc (suc (suc (suc (suc (suc (suc (suc zero)))))))))) n9 n10 = absurd (n10 refl)
+    stays-at (suc (suc (suc (suc (suc (suc (suc (suc (suc (suc (suc zero))))))))))) n9 n10 = refl
+    stays-at (suc (suc (suc (suc (suc (suc (suc (suc (suc (suc (suc (suc zero)))))))))))) n9 n10 = refl
+    stays-at (suc (suc (suc (suc (suc (suc (suc (suc (suc (suc (suc (suc (suc n))))))))))))) n9 n10 = refl
 
     pub stays : (code ≡ 9 → ⊥) → (code ≡ 10 → ⊥) → scratchBy j (opcodeIn f) os ≡ j
-    unfolding opcodeIn scratchBy
-    stays n9 n10 =
-        rw (← e, ne-eqb code 9 n9, ne-eqb code 10 n10)
-        (either-stays (eqb code 1) _ _ refl (either-stays (eqb code 2) _ _ refl (either-stays (eqb code 3) _ _ refl (either-stays (eqb code 4) _ _ refl (either-stays (eqb code 5) _ _ refl (either-stays (eqb code 6) _ _ refl
-        (either-stays (eqb code 7) _ _ refl (either-stays (eqb code 8) _ _ refl (either-stays (eqb code 11) _ _ refl (either-stays (eqb code 12) _ _ refl refl))))))))))
+    unfolding opcodeIn
+    stays n9 n10 = rw (← e) (stays-at code n9 n10)
 
 -- ---- the parts of a payload, as the code has them
 
-module _ (p : List ℕ) {n : ℕ} {o x : Opcode} (count : n ≡ byteAt p 6) (by : opcodeIn (fieldsAt p 0) ≡ x) (is : o ≡ x) where
+module _ (p : List ℕ) {n : ℕ} {o x : Opcode} (count : n ≡ byteAt p 6) (by : opcodeIn (fieldsIn p 0) ≡ x) (is : o ≡ x) where
   pub lowered : (f : Frame) (j : ℕ) (condition : Bool) {result : ℕ} → result ≡ unsignedAt w32 p 0 → opcode f j condition result o (operandsIn p 16 n) ≡ instructionIn f j condition p
   unfolding instructionIn operandsOf
   lowered f j condition r = rw (r, count, is, by)

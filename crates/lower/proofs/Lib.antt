@@ -1,7 +1,7 @@
 pub mod Steps
-pub mod Range
 pub mod Compose
 pub mod Counts
+pub mod Asked
 pub mod Codes
 pub mod Pieces
 pub mod Words

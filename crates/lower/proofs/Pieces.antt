@@ -9,6 +9,7 @@ use borrow.Author.Tests.{eqb-true, ne-eqb, eq-eqb}
 use lib.Dec.{eqb}
 use lib.IntN.{ℤ, pos}
 use Rattle.wire.specs.Pick.{pick, either}
+use Rattle.wire.specs.Range.{fits16, fits32}
 use Rattle.ir.specs.declared.BinaryOp.{BinaryOp}
 use Rattle.ir.specs.declared.Operand.{Operand}
 use Rattle.ir.specs.declared.Operand.the-variants.{Var, Immediate}
@@ -21,7 +22,7 @@ use Rattle.insn.specs.declared.form.Form.the-variants.{Ldx, Stx, AluReg}
 use Rattle.frame.specs.Cell.{Frame, frameOf}
 use Rattle.frame.specs.Hint.{frameBy}
 use Rattle.lower.specs.Op.{Lowered, becomes, refused, plain, insn, _▸_}
-use Rattle.lower.specs.Operand.{fits16, fits32, constant, move, add, call, load, addr, keep}
+use Rattle.lower.specs.Operand.{constant, move, add, call, load, addr, keep}
 use Rattle.lower.specs.Instruction.{sized, mem, operate, nullCheck, helperCall, onNone, onThree}
 use Rattle.lower.specs.Step.{opsIn, words, one, withConstant, addrPut, addrTake, nullTest, nullZero, nullRest}
 use Rattle.lower.specs.declared.Reason.{Reason}

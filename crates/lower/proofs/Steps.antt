@@ -173,7 +173,7 @@ module _ (b₀ : List ℕ) (at s : ℕ) {p : Piece} where
 -- ---- the load of a map's address
 
 zero-word : insnOf 0 ≡ zeroInsn
-unfolding insnOf insnAt signedAt unsignedAt unsignedBytes lowest le zeroInsn
+unfolding insnOf insnAt signedAt unsignedAt unsignedBytes lowest le
 zero-word = refl
 
 module _ (b₀ : List ℕ) (at : ℕ) {m : MapUse} where

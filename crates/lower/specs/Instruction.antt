@@ -6,6 +6,7 @@ use lib.Dec.{eqb}
 use lib.IntN.{ℤ, pos}
 use lib.ListN.{length}
 use Rattle.wire.specs.Pick.{pick, either}
+use Rattle.wire.specs.Range.{fits16, fits32}
 use Rattle.ir.specs.Operands.{listOf}
 use Rattle.ir.specs.declared.BinaryOp.{BinaryOp}
 use Rattle.ir.specs.declared.Operand.{Operand}
@@ -21,7 +22,7 @@ use Rattle.insn.specs.declared.form.Size.the-variants.{Dw}
 use Rattle.insn.specs.declared.form.Form.the-variants.{Ldx, AluImm, AluReg, MovImm, Ja, JeqImm, Exit}
 use Rattle.frame.specs.Cell.{Frame}
 use Rattle.lower.specs.Op.{Lowered, becomes, refused, plain, insn, _▸_}
-use Rattle.lower.specs.Operand.{fits16, fits32, constant, move, add, call, load, addr, next, keep, mapAddress}
+use Rattle.lower.specs.Operand.{constant, move, add, call, load, addr, next, keep, mapAddress}
 use Rattle.lower.specs.declared.Reason.{Reason}
 use Rattle.lower.specs.declared.Reason.the-variants as Re
 

@@ -1,6 +1,7 @@
 pub mod Op
 pub mod Operand
 pub mod Instruction
+pub mod Counted
 pub mod Payload
 pub mod Terminator
 pub mod Put

@@ -1,11 +1,9 @@
 -- "Load", "Addr", "Keep" and "Map".
-use Prim.Native.Nat.{ℕ, suc, _%_, _^_}
-use mathlib.Core.Bool.{Bool, true, false}
+use Prim.Native.Nat.{ℕ, suc, _%_}
 use mathlib.Core.List.{List, [], _∷_}
-use lib.Dec.{ltb}
 use lib.IntN.{ℤ, pos}
-use lib.Signed.{mag}
 use Rattle.wire.specs.Pick.{pick}
+use Rattle.wire.specs.Range.{fits32}
 use Rattle.ir.specs.declared.BinaryOp.the-variants.{Add}
 use Rattle.ir.specs.declared.Operand.{Operand}
 use Rattle.ir.specs.declared.Operand.the-variants.{Var, Immediate}
@@ -17,13 +15,6 @@ use Rattle.frame.specs.declared.Cell.the-variants.{At, Missing}
 use Rattle.lower.specs.Op.{Op, Lowered, becomes, refused, map, insn, _▸_}
 use Rattle.lower.specs.declared.Reason.{Reason}
 use Rattle.lower.specs.declared.Reason.the-variants as Re
-
--- a number that i32, or i16, holds
-unfoldable pub fits32 : ℤ → Bool
-fits32 z = ltb (mag z) (2 ^ 31)
-
-unfoldable pub fits16 : ℤ → Bool
-fits16 z = ltb (mag z) (2 ^ 15)
 
 -- MOV64 of a constant: 12 where it is outside i32
 unfoldable pub constant : ℕ → ℤ → Lowered

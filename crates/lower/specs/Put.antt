@@ -10,10 +10,10 @@ use Rattle.insn.specs.declared.form.Form.the-variants.{WideLoad}
 use Rattle.lower.specs.Op.{Op, plain, map, ja, jne, Lowered, becomes, refused}
 
 -- "map": 0x18 with dst R1, src 1, all else zero, then a zero slot
-unfoldable pub wideInsn : Insn
+abbrev pub wideInsn : Insn
 wideInsn = record { code = opcodeOf WideLoad; dst = 1; src = 1; off = pos 0; imm = pos 0 }
 
-unfoldable pub zeroInsn : Insn
+abbrev pub zeroInsn : Insn
 zeroInsn = record { code = 0; dst = 0; src = 0; off = pos 0; imm = pos 0 }
 
 -- the instructions of operations without jumps to blocks: an instruction becomes none of these

@@ -1,11 +1,13 @@
 -- One instruction that may be refused, pieces of several, and what putting them leaves.
-use Prim.Native.Nat.{ℕ, _+_, _*_, _≤_}
+use Prim.Native.Nat.{ℕ, _+_, _≤_}
 use mathlib.Core.Path.{_≡_}
 use mathlib.Core.Bool.{Bool, true, false}
 use mathlib.Core.List.{List, [], _∷_}
 use lib.IntN.{ℤ, pos}
 use lib.ListN.{length}
+use Rattle.wire.specs.Number.{bytesBefore}
 use Rattle.wire.specs.Pick.{pick}
+use Rattle.wire.specs.Range.{fits32}
 use Rattle.ir.specs.declared.Operand.{Operand}
 use Rattle.ir.specs.declared.Operand.the-variants.{Var, Immediate}
 use Rattle.insn.specs.Layout.{insnOf}
@@ -13,7 +15,7 @@ use Rattle.insn.specs.declared.form.Size.the-variants.{Dw}
 use Rattle.insn.specs.declared.form.Form.the-variants.{Stx, Ja, JeqImm, Exit}
 use Rattle.frame.specs.Cell.{Frame}
 use Rattle.lower.specs.Op.{Op, plain, map, Lowered, becomes, refused, insn, slotsOf, _▸_}
-use Rattle.lower.specs.Operand.{fits32, constant, move, add, onCell}
+use Rattle.lower.specs.Operand.{constant, move, add, onCell}
 use Rattle.lower.specs.Put.{insnsIn, putAt, putLowered}
 use Rattle.lower.specs.Held.{mapIn, held}
 use Rattle.lower.specs.declared.Reason.{Reason}
@@ -124,7 +126,7 @@ pub record Holds (b₀ : List ℕ) (at : ℕ) (l : List Op) (b : List ℕ) (slot
 
 -- the piece p put from a slot on, and the slot after it
 pub record PutPiece (b₀ : List ℕ) (at slot : ℕ) (p : Piece) (b : List ℕ) (after : ℕ) : Type 0 where
-  pub code : b ≡ putAt b₀ (at + 8 * slot) (insnsIn (opsOf p))
+  pub code : b ≡ putAt b₀ (at + bytesBefore slot) (insnsIn (opsOf p))
   pub next : after ≡ slot + slotsOf (opsOf p)
   pub most : after ≤ slot + 2
 

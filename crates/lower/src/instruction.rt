@@ -23,6 +23,7 @@ use crate::piece::reason;
 use crate::piece::store;
 use crate::piece::take_addr;
 use crate::piece::word;
+use crate::refused;
 use insn::BPF_CALL;
 use insn::BPF_MOV64_IMM;
 use insn::R0;
@@ -64,11 +65,11 @@ fn by_constant(
 {
     let second = constant_word(insn::alu64_imm(op), R0, z);
     let Encoded::Is(b) = second else {
-        return list::refused(reason(second));
+        return refused(reason(second));
     };
     let last = keep_word(variables, hints, result);
     let Encoded::Is(c) = last else {
-        return list::refused(reason(last));
+        return refused(reason(last));
     };
     list::words_three(code, at, a, b, c)
 }
@@ -87,12 +88,12 @@ fn by_variable(
 {
     let second = load_word(variables, hints, R1, Operand::Var(v));
     let Encoded::Is(b) = second else {
-        return list::refused(reason(second));
+        return refused(reason(second));
     };
     let c = word(insn::alu64_reg(op), R0, R1, 0, 0);
     let last = keep_word(variables, hints, result);
     let Encoded::Is(d) = last else {
-        return list::refused(reason(last));
+        return refused(reason(last));
     };
     list::words_four(code, at, a, b, c, d)
 }
@@ -110,11 +111,11 @@ pub fn binary(
     ensures { λ r. ⌜ Puts (now (code .entry)) at (opcode (frameBy (now (variables .entry)) (now (hints .entry))) 0 false result (C.Binary op) (operandsIn (now (payload .entry)) 16 n)) (now (code .exit)) r ⌝ }
 {
     if n != 2 {
-        return list::refused(Reason::Count(n));
+        return refused(Reason::Count(n));
     }
     let first = load_word(variables, hints, R0, operand_in(payload, 16));
     let Encoded::Is(a) = first else {
-        return list::refused(reason(first));
+        return refused(reason(first));
     };
     match operand_in(payload, 25) {
         Operand::Immediate(z) => by_constant(code, at, variables, hints, result, op, a, z),
@@ -136,16 +137,16 @@ pub fn load_key(
     ensures { λ r. ⌜ Puts (now (code .entry)) at (opcode (frameBy (now (variables .entry)) (now (hints .entry))) 0 false result C.LoadKey (operandsIn (now (payload .entry)) 16 n)) (now (code .exit)) r ⌝ }
 {
     if n == 0 {
-        return list::refused(Reason::Count(0));
+        return refused(Reason::Count(0));
     }
     let first = load_word(variables, hints, R1, operand_in(payload, 16));
     let Encoded::Is(a) = first else {
-        return list::refused(reason(first));
+        return refused(reason(first));
     };
     let b = word(0x79, R0, R1, 0, 0);
     let last = keep_word(variables, hints, result);
     let Encoded::Is(c) = last else {
-        return list::refused(reason(last));
+        return refused(reason(last));
     };
     list::words_three(code, at, a, b, c)
 }
@@ -162,19 +163,19 @@ pub fn store_value(
     ensures { λ r. ⌜ Puts (now (code .entry)) at (opcode (frameBy (now (variables .entry)) (now (hints .entry))) 0 false 0 (C.Store size) (operandsIn (now (payload .entry)) 16 n)) (now (code .exit)) r ⌝ }
 {
     if n != 2 {
-        return list::refused(Reason::Count(n));
+        return refused(Reason::Count(n));
     }
     let first = load_word(variables, hints, R1, operand_in(payload, 16));
     let Encoded::Is(a) = first else {
-        return list::refused(reason(first));
+        return refused(reason(first));
     };
     let second = load_word(variables, hints, R2, operand_in(payload, 25));
     let Encoded::Is(b) = second else {
-        return list::refused(reason(second));
+        return refused(reason(second));
     };
     let last = store(size);
     let Encoded::Is(c) = last else {
-        return list::refused(reason(last));
+        return refused(reason(last));
     };
     list::words_three(code, at, a, b, c)
 }
@@ -192,11 +193,11 @@ pub fn from_context(
 {
     let first = load_context(offset, size);
     let Encoded::Is(a) = first else {
-        return list::refused(reason(first));
+        return refused(reason(first));
     };
     let last = keep_word(variables, hints, result);
     let Encoded::Is(b) = last else {
-        return list::refused(reason(last));
+        return refused(reason(last));
     };
     list::words_two(code, at, a, b)
 }
@@ -215,7 +216,7 @@ pub fn copy_context(
     ensures { λ r. ⌜ Puts (now (code .entry)) at (opcode (frameBy (now (variables .entry)) (now (hints .entry))) 0 false result (C.CopyCtxToMem offset size) (operandsIn (now (payload .entry)) 16 n)) (now (code .exit)) r ⌝ }
 {
     if n == 0 {
-        return list::refused(Reason::Count(0));
+        return refused(Reason::Count(0));
     }
     let a = operand_in(payload, 16);
     list::five(
@@ -276,7 +277,7 @@ fn call_none(
     let a = call_word(id);
     let last = keep_word(variables, hints, result);
     let Encoded::Is(b) = last else {
-        return list::refused(reason(last));
+        return refused(reason(last));
     };
     list::words_two(code, at, a, b)
 }
@@ -295,20 +296,20 @@ fn call_three(
 {
     let first = load_word(variables, hints, R1, operand_in(payload, 16));
     let Encoded::Is(a) = first else {
-        return list::refused(reason(first));
+        return refused(reason(first));
     };
     let second = load_word(variables, hints, R2, operand_in(payload, 25));
     let Encoded::Is(b) = second else {
-        return list::refused(reason(second));
+        return refused(reason(second));
     };
     let third = load_word(variables, hints, R3, operand_in(payload, 34));
     let Encoded::Is(c) = third else {
-        return list::refused(reason(third));
+        return refused(reason(third));
     };
     let d = call_word(id);
     let last = keep_word(variables, hints, result);
     let Encoded::Is(e) = last else {
-        return list::refused(reason(last));
+        return refused(reason(last));
     };
     list::words_five(code, at, a, b, c, d, e)
 }
@@ -327,20 +328,20 @@ pub fn helper_call(
 {
     if takes_none(id) {
         if n != 0 {
-            return list::refused(Reason::Count(n));
+            return refused(Reason::Count(n));
         }
         return call_none(code, at, variables, hints, result, id);
     }
     if id == 16 {
-        return list::refused(Reason::Helper16);
+        return refused(Reason::Helper16);
     }
     if takes_three(id) {
         if n != 3 {
-            return list::refused(Reason::Count(n));
+            return refused(Reason::Count(n));
         }
         return call_three(code, at, variables, hints, result, id, payload);
     }
-    list::refused(Reason::Helper(id))
+    refused(Reason::Helper(id))
 }
 
 // ---- maps
@@ -359,7 +360,7 @@ pub fn call_map(
     ensures { λ r. ⌜ Puts (now (code .entry)) at (opcode (frameBy (now (variables .entry)) (now (hints .entry))) j false result (C.CallMap map) (operandsIn (now (payload .entry)) 16 n)) (now (code .exit)) r ⌝ }
 {
     if n == 0 {
-        return list::refused(Reason::Count(0));
+        return refused(Reason::Count(0));
     }
     let a = operand_in(payload, 16);
     list::four(
@@ -387,7 +388,7 @@ pub fn update_map(
     ensures { λ r. ⌜ Puts (now (code .entry)) at (opcode (frameBy (now (variables .entry)) (now (hints .entry))) j false result (C.UpdateMap map) (operandsIn (now (payload .entry)) 16 n)) (now (code .exit)) r ⌝ }
 {
     if n != 2 {
-        return list::refused(Reason::Count(n));
+        return refused(Reason::Count(n));
     }
     let a = operand_in(payload, 16);
     let b = operand_in(payload, 25);
@@ -439,7 +440,7 @@ pub fn submit(
     ensures { λ r. ⌜ Puts (now (code .entry)) at (opcode (frameBy (now (variables .entry)) (now (hints .entry))) 0 false result (C.RingBufSubmit 0) (operandsIn (now (payload .entry)) 16 n)) (now (code .exit)) r ⌝ }
 {
     if n == 0 {
-        return list::refused(Reason::Count(0));
+        return refused(Reason::Count(0));
     }
     let a = operand_in(payload, 16);
     list::five(
@@ -469,7 +470,7 @@ pub fn null_check(
     ensures { λ r. ⌜ Puts (now (code .entry)) at (opcode (frameBy (now (variables .entry)) (now (hints .entry))) 0 condition result C.NullCheck (operandsIn (now (payload .entry)) 16 n)) (now (code .exit)) r ⌝ }
 {
     if n == 0 {
-        return list::refused(Reason::Count(0));
+        return refused(Reason::Count(0));
     }
     let a = operand_in(payload, 16);
     list::five(

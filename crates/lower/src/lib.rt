@@ -8,6 +8,7 @@ use ir::Terminator;
 use piece::Step;
 ghost use mathlib.Core.Path.{_≡_};
 ghost use Rattle.frame.specs.Hint.{frameBy};
+ghost use Rattle.lower.specs.Op.{refused};
 ghost use Rattle.lower.specs.Put.{putLowered};
 ghost use Rattle.lower.specs.Held.{held, endingOps};
 ghost use Rattle.lower.specs.Payload.{instructionIn, scratchIn};
@@ -50,6 +51,17 @@ pub enum Ending {
     Jump(u32),
     Branch(Insn, u32, u32),
     Refused(Reason),
+}
+
+// Refused, and nothing put.
+pub fn refused(r: Reason) -> Emitted
+    ensures { λ e. ⌜ e ≡ held (refused r) ⌝ }
+{
+    Emitted {
+        outcome: Outcome::Refused(r),
+        map: MapUse::Nothing,
+        slots: 0,
+    }
 }
 
 // By the opcode's code at byte 4; the operand count stands at byte 6.

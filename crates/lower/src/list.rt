@@ -2,75 +2,67 @@
 use crate::Emitted;
 use crate::MapUse;
 use crate::Outcome;
-use crate::Reason;
 use crate::piece::Piece;
 use crate::piece::first;
 use crate::piece::word;
-ghost use Prim.Native.Nat.{_+_, _*_, _≤_};
+use crate::refused;
+use wire::number::SlotNumber;
+use wire::number::byte_offset;
+ghost use Prim.Native.Nat.{_+_, _≤_};
 ghost use mathlib.Core.Path.{_≡_};
 ghost use mathlib.Core.List.{[], _∷_};
 ghost use Rattle.wire.specs.Le.{store};
+ghost use Rattle.wire.specs.Number.{bytesBefore};
 ghost use Rattle.insn.specs.Layout.{bytesOf, insnOf};
-ghost use Rattle.lower.specs.Op.{becomes, refused, _▸_};
-ghost use Rattle.lower.specs.Held.{held};
+ghost use Rattle.lower.specs.Op.{becomes, _▸_};
 ghost use Rattle.lower.specs.Step.{words, pieceOf, mapOps, Holds, PutPiece, Puts};
-
-pub fn refused(r: Reason) -> Emitted
-    ensures { λ e. ⌜ e ≡ held (refused r) ⌝ }
-{
-    Emitted {
-        outcome: Outcome::Refused(r),
-        map: MapUse::Nothing,
-        slots: 0,
-    }
-}
 
 // ---- putting
 
 // An instruction at a slot, counted from a byte of the code; no slot lies in the code where that byte lies past its end.
-fn put_slot(code: &mut [u8], at: usize, slot: u32, word: u64)
-    ensures { λ _. ⌜ now (code .exit) ≡ store (now (code .entry)) (at + 8 * slot) (bytesOf (insnOf word)) ⌝ }
+fn put_slot(code: &mut [u8], at: usize, slot: SlotNumber, word: u64)
+    ensures { λ _. ⌜ now (code .exit) ≡ store (now (code .entry)) (at + bytesBefore (slot .0)) (bytesOf (insnOf word)) ⌝ }
 {
     if code.len() < at {
         return;
     }
-    wire::put_u64(code, at + 8 * (slot as usize), word);
+    wire::put_u64(code, at + byte_offset(slot).0 as usize, word);
 }
 
 const MAP_SLOTS: u32 = 2;
 
 // The load of a map's address, and the slot after it.
-fn put_map(code: &mut [u8], at: usize, map: MapUse) -> u32
-    ensures { λ r. ⌜ Holds (now (code .entry)) at (mapOps map) (now (code .exit)) r ⌝ }
-    ensures { λ r. ⌜ r ≤ 2 ⌝ }
+fn put_map(code: &mut [u8], at: usize, map: MapUse) -> SlotNumber
+    ensures { λ r. ⌜ Holds (now (code .entry)) at (mapOps map) (now (code .exit)) (r .0) ⌝ }
+    ensures { λ r. ⌜ r .0 ≤ 2 ⌝ }
 {
     match map {
-        MapUse::Nothing => 0,
+        MapUse::Nothing => SlotNumber(0),
         MapUse::Map(_) => {
             let wide = word(insn::BPF_LD_DW_IMM, insn::R1, 1, 0, 0);
-            put_slot(code, at, 0, wide);
-            put_slot(code, at, 1, 0);
-            MAP_SLOTS
+            put_slot(code, at, SlotNumber(0), wide);
+            put_slot(code, at, SlotNumber(1), 0);
+            SlotNumber(MAP_SLOTS)
         }
     }
 }
 
 // A piece from a slot on, and the slot after it.
-fn put(code: &mut [u8], at: usize, slot: u32, p: Piece) -> u32
-    requires { ⌜ slot ≤ 64 ⌝ }
-    ensures { λ r. ⌜ PutPiece (now (code .entry)) at slot p (now (code .exit)) r ⌝ }
+fn put(code: &mut [u8], at: usize, slot: SlotNumber, p: Piece) -> SlotNumber
+    requires { ⌜ slot .0 ≤ 64 ⌝ }
+    ensures { λ r. ⌜ PutPiece (now (code .entry)) at (slot .0) p (now (code .exit)) (r .0) ⌝ }
 {
     match p {
         Piece::Refused(_) => slot,
         Piece::Nothing => slot,
         Piece::One(a) => {
             put_slot(code, at, slot, a);
-            slot + 1
+            SlotNumber(slot.0 + 1)
         }
         Piece::Two(a, b) => {
             put_slot(code, at, slot, a);
-            put_slot(code, at, slot + 1, b);
-            slot + 2
+            put_slot(code, at, SlotNumber(slot.0 + 1), b);
+            SlotNumber(slot.0 + 2)
         }
     }
 }
@@ -80,8 +72,8 @@ fn put(code: &mut [u8], at: usize, slot: u32, p: Piece) -> u32
 pub fn words_two(code: &mut [u8], at: usize, a: u64, b: u64) -> Emitted
     ensures { λ r. ⌜ Puts (now (code .entry)) at (words (a ∷ b ∷ [])) (now (code .exit)) r ⌝ }
 {
-    put_slot(code, at, 0, a);
-    put_slot(code, at, 1, b);
+    put_slot(code, at, SlotNumber(0), a);
+    put_slot(code, at, SlotNumber(1), b);
     Emitted {
         outcome: Outcome::Fine,
         map: MapUse::Nothing,
@@ -92,9 +84,9 @@ pub fn words_two(code: &mut [u8], at: usize, a: u64, b: u64) -> Emitted
 pub fn words_three(code: &mut [u8], at: usize, a: u64, b: u64, c: u64) -> Emitted
     ensures { λ r. ⌜ Puts (now (code .entry)) at (words (a ∷ b ∷ c ∷ [])) (now (code .exit)) r ⌝ }
 {
-    put_slot(code, at, 0, a);
-    put_slot(code, at, 1, b);
-    put_slot(code, at, 2, c);
+    put_slot(code, at, SlotNumber(0), a);
+    put_slot(code, at, SlotNumber(1), b);
+    put_slot(code, at, SlotNumber(2), c);
     Emitted {
         outcome: Outcome::Fine,
         map: MapUse::Nothing,
@@ -105,10 +97,10 @@ pub fn words_three(code: &mut [u8], at: usize, a: u64, b: u64, c: u64) -> Emitte
 pub fn words_four(code: &mut [u8], at: usize, a: u64, b: u64, c: u64, d: u64) -> Emitted
     ensures { λ r. ⌜ Puts (now (code .entry)) at (words (a ∷ b ∷ c ∷ d ∷ [])) (now (code .exit)) r ⌝ }
 {
-    put_slot(code, at, 0, a);
-    put_slot(code, at, 1, b);
-    put_slot(code, at, 2, c);
-    put_slot(code, at, 3, d);
+    put_slot(code, at, SlotNumber(0), a);
+    put_slot(code, at, SlotNumber(1), b);
+    put_slot(code, at, SlotNumber(2), c);
+    put_slot(code, at, SlotNumber(3), d);
     Emitted {
         outcome: Outcome::Fine,
         map: MapUse::Nothing,
@@ -119,11 +111,11 @@ pub fn words_four(code: &mut [u8], at: usize, a: u64, b: u64, c: u64, d: u64) ->
 pub fn words_five(code: &mut [u8], at: usize, a: u64, b: u64, c: u64, d: u64, e: u64) -> Emitted
     ensures { λ r. ⌜ Puts (now (code .entry)) at (words (a ∷ b ∷ c ∷ d ∷ e ∷ [])) (now (code .exit)) r ⌝ }
 {
-    put_slot(code, at, 0, a);
-    put_slot(code, at, 1, b);
-    put_slot(code, at, 2, c);
-    put_slot(code, at, 3, d);
-    put_slot(code, at, 4, e);
+    put_slot(code, at, SlotNumber(0), a);
+    put_slot(code, at, SlotNumber(1), b);
+    put_slot(code, at, SlotNumber(2), c);
+    put_slot(code, at, SlotNumber(3), d);
+    put_slot(code, at, SlotNumber(4), e);
     Emitted {
         outcome: Outcome::Fine,
         map: MapUse::Nothing,
@@ -155,11 +147,11 @@ pub fn four(
             let slot = put(code, at, slot, a);
             let slot = put(code, at, slot, b);
             let slot = put(code, at, slot, c);
-            let slots = put(code, at, slot, d);
+            let after = put(code, at, slot, d);
             Emitted {
                 outcome: o,
                 map,
-                slots,
+                slots: after.0,
             }
         }
     }
@@ -190,11 +182,11 @@ pub fn five(
             let slot = put(code, at, slot, b);
             let slot = put(code, at, slot, c);
             let slot = put(code, at, slot, d);
-            let slots = put(code, at, slot, e);
+            let after = put(code, at, slot, e);
             Emitted {
                 outcome: o,
                 map,
-                slots,
+                slots: after.0,
             }
         }
     }
@@ -228,11 +220,11 @@ pub fn six(
             let slot = put(code, at, slot, c);
             let slot = put(code, at, slot, d);
             let slot = put(code, at, slot, e);
-            let slots = put(code, at, slot, f);
+            let after = put(code, at, slot, f);
             Emitted {
                 outcome: o,
                 map,
-                slots,
+                slots: after.0,
             }
         }
     }

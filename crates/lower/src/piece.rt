@@ -18,18 +18,21 @@ use insn::R4;
 use insn::R6;
 use insn::R10;
 use ir::Operand;
+use wire::range::fits16;
+use wire::range::fits32;
 ghost use Prim.Native.Nat.{_<_};
 ghost use mathlib.Core.List.{[], _∷_};
 ghost use mathlib.Core.Path.{_≡_};
 ghost use lib.IntN.{pos};
 ghost use Rattle.wire.specs.Pick.{pick};
+ghost use Rattle.wire.specs.Range.{fits16};
 ghost use Rattle.frame.specs.Cell.{frameOf};
 ghost use Rattle.frame.specs.Hint.{frameBy};
 ghost use Rattle.insn.specs.Rfc.{LDX, STX};
 ghost use Rattle.insn.specs.Form.{memCode};
 ghost use Rattle.insn.specs.Layout.{insnOf};
 ghost use Rattle.lower.specs.Op.{plain, becomes, refused, _▸_};
-ghost use Rattle.lower.specs.Operand.{fits16, constant, move, add, call, load, next, keep};
+ghost use Rattle.lower.specs.Operand.{constant, move, add, call, load, next, keep};
 ghost use Rattle.lower.specs.Instruction.{sized, mem};
 ghost use Rattle.lower.specs.Step.{stepOf, wordIs, reasonOf, pieceOf, outcomeOf, firstOf, one, withConstant, addrPut, addrTake, nullTest, nullZero, nullRest};
 
@@ -125,32 +128,26 @@ pub(crate) fn plain(code: u8, dst: u8, src: u8, off: i16, imm: i32) -> Piece
 fn with_constant(code: u8, r: u8, z: i64) -> Step
     ensures { λ s. ⌜ stepOf s ≡ withConstant code r z ⌝ }
 {
-    if z < -2147483648 {
-        return Step::Refused(Reason::Immediate(z));
+    if fits32(z) {
+        return Step::Is(Insn {
+            code,
+            dst: r,
+            src: 0,
+            off: 0,
+            imm: z as i32,
+        });
     }
-    if z > 2147483647 {
-        return Step::Refused(Reason::Immediate(z));
-    }
-    Step::Is(Insn {
-        code,
-        dst: r,
-        src: 0,
-        off: 0,
-        imm: z as i32,
-    })
+    Step::Refused(Reason::Immediate(z))
 }
 
 pub(crate) fn constant_word(code: u8, r: u8, z: i64) -> Encoded
     requires { ⌜ r < 16 ⌝ }
     ensures { λ w. ⌜ wordIs w ≡ withConstant code r z ⌝ }
 {
-    if z < -2147483648 {
-        return Encoded::Refused(Reason::Immediate(z));
+    if fits32(z) {
+        return Encoded::Is(word(code, r, 0, 0, z as i32));
     }
-    if z > 2147483647 {
-        return Encoded::Refused(Reason::Immediate(z));
-    }
-    Encoded::Is(word(code, r, 0, 0, z as i32))
+    Encoded::Refused(Reason::Immediate(z))
 }
 
 // MOV64 of a constant.
@@ -283,13 +280,10 @@ pub fn load_context(offset: i32, size: u8) -> Encoded
 {
     match insn::ldx_mem(size) {
         MemCode::Code(code) => {
-            if offset < -32768 {
-                return Encoded::Refused(Reason::Offset(offset));
+            if fits16(offset as i64) {
+                return Encoded::Is(word(code, R0, R6, offset as i16, 0));
             }
-            if offset > 32767 {
-                return Encoded::Refused(Reason::Offset(offset));
-            }
-            Encoded::Is(word(code, R0, R6, offset as i16, 0))
+            Encoded::Refused(Reason::Offset(offset))
         }
         MemCode::Unsupported => Encoded::Refused(Reason::LoadSize(size)),
     }

@@ -7,8 +7,8 @@ use native.Mathlib.Omega.{arith}
 use lib.Dec.{eqb, leb}
 use lib.IntN.{ℤ, pos, negsuc}
 use mir.Syntax.{w8, w16, w32, w64}
-use Rattle.wire.specs.Le.{le, bytesOf, store, unsignedBytes}
-use Rattle.wire.proofs.Le.{Bytes, le-below, unsigned-bytes}
+use Rattle.wire.specs.Le.{Bytes, le, bytesOf, store, unsignedBytes}
+use Rattle.wire.proofs.Le.{le-below, unsigned-bytes}
 use Rattle.wire.proofs.Store.{store-bytes}
 use Rattle.ir.specs.declared.BinaryOp.{BinaryOp}
 use Rattle.ir.specs.declared.BinaryOp.the-variants.{Add, Sub, Mul, Div, Mod, Shl, Shr}
@@ -95,16 +95,16 @@ Leaves (on t e) = Does e
 Leaves (returns v) = Small v
 Leaves stuck = Unit {0}
 
-module _ (m : Memory) (M : Words m) where
-  reg-small : (r : ℕ) → Small (reg m r)
-  reg-small r = by-test Small (eqb r 10) 512 (m .regs r) (omega arith) (M .regs r)
+module _ (m : Memory) (M : Words m) (p : ℕ) (P : Small p) where
+  reg-small : (r : ℕ) → Small (reg p m r)
+  reg-small r = by-test Small (eqb r 10) p (m .regs r) P (M .regs r)
 
   jump-leaves : (z : ℤ) → Leaves (jump z)
   unfolding jump
   jump-leaves (pos t) = tt
   jump-leaves (negsuc t) = tt
 
-  leaves : (f : Form) (i : Insn) (high : ℤ) (s : ℕ) (a : Answer) → Fitting a → Leaves (given a (turnOf f i high s m))
+  leaves : (f : Form) (i : Insn) (high : ℤ) (s : ℕ) (a : Answer) → Fitting a → Leaves (given a (turnOf p f i high s m))
   unfolding turnOf given loaded stored
   leaves NoForm i high s a A = tt
   leaves WideLoad i high s a A = by-test (λ (t : Turn). Leaves (given a t)) (eqb (i .src) 0) _ _ (halves-small (word (i .imm)) (word high)) (A .value)
@@ -112,18 +112,19 @@ module _ (m : Memory) (M : Words m) where
       by-test (λ (t : Turn). Leaves (given a t)) (eqb (i .src) 10) _ _ (part-small w (byteOf (i .off)) (m .cells (cellOf (i .off))) (M .cells (cellOf (i .off)))) (low-small w (a .value))
   leaves (Stx w) i high s a A =
       by-test (λ (t : Turn). Leaves (given a t)) (eqb (i .dst) 10) _ _
-      (λ k. by-test Small (eqb k (cellOf (i .off))) _ _ (with-small w (byteOf (i .off)) (m .cells (cellOf (i .off))) (reg m (i .src)) (reg-small (i .src))) (M .cells k))
+      (λ k. by-test Small (eqb k (cellOf (i .off))) _ _ (with-small w (byteOf (i .off)) (m .cells (cellOf (i .off))) (reg p m (i .src)) (reg-small (i .src))) (M .cells k))
       (A .frame (m .cells) (M .cells))
-  leaves (AluImm o) i high s a A = alu-small o (reg m (i .dst)) (word (i .imm)) (reg-small (i .dst))
-  leaves (AluReg o) i high s a A = alu-small o (reg m (i .dst)) (reg m (i .src)) (reg-small (i .dst))
+  leaves (AluImm o) i high s a A = alu-small o (reg p m (i .dst)) (word (i .imm)) (reg-small (i .dst))
+  leaves (AluReg o) i high s a A = alu-small o (reg p m (i .dst)) (reg p m (i .src)) (reg-small (i .dst))
   leaves MovImm i high s a A = word-small (i .imm)
   leaves MovReg i high s a A = reg-small (i .src)
   leaves Ja i high s a A = jump-leaves (target s (i .off))
-  leaves JeqImm i high s a A = by-test Leaves (eqb (reg m (i .dst)) (word (i .imm))) (jump (target s (i .off))) (on (suc s) keeps) (jump-leaves (target s (i .off))) tt
-  leaves JneImm i high s a A = by-test Leaves (eqb (reg m (i .dst)) (word (i .imm))) (on (suc s) keeps) (jump (target s (i .off))) tt (jump-leaves (target s (i .off)))
+  leaves JeqImm i high s a A = by-test Leaves (eqb (reg p m (i .dst)) (word (i .imm))) (jump (target s (i .off))) (on (suc s) keeps) (jump-leaves (target s (i .off))) tt
+  leaves JneImm i high s a A = by-test Leaves (eqb (reg p m (i .dst)) (word (i .imm))) (on (suc s) keeps) (jump (target s (i .off))) tt (jump-leaves (target s (i .off)))
   leaves Call i high s a A = A
   leaves Exit i high s a A = reg-small 0
 
+module _ (m : Memory) (M : Words m) where
   kept : (e : Effect) → Does e → Words (after e m)
   unfolding after
   kept keeps h = M
@@ -136,6 +137,6 @@ module _ (m : Memory) (M : Words m) where
       }
 
 -- whatever the code is
-pub words-kept : (code : ℕ → Insn) (a : Answer) (s : ℕ) {t : ℕ} {e : Effect} (m : Memory) → Words m → Fitting a → step code a s m ≡ on t e → Words (after e m)
+pub words-kept : (p : ℕ) (code : ℕ → Insn) (a : Answer) (s : ℕ) {t : ℕ} {e : Effect} (m : Memory) → p < 2 ^ 64 → Words m → Fitting a → step p code a s m ≡ on t e → Words (after e m)
 unfolding step turn
-words-kept code a s {t} {e} m M A q = kept m M e (rw q at (leaves m M (formOf (code s .code)) (code s) (code (suc s) .imm) s a A))
+words-kept p code a s {t} {e} m P M A q = kept m M e (rw q at (leaves m M p P (formOf (code s .code)) (code s) (code (suc s) .imm) s a A))

@@ -4,3 +4,4 @@ pub mod Turn
 pub mod Run
 pub mod Words
 pub mod Points
+pub mod Known

@@ -11,17 +11,17 @@ pub record Memory : Type 0 where
   pub regs : ℕ → ℕ
   pub cells : ℕ → ℕ
 
--- R10 is no state but a constant
-abbrev pub reg : Memory → ℕ → ℕ
-reg m r = pick (eqb r 10) 512 (m .regs r)
+-- R10 is no state: it holds one number p through a run
+abbrev pub reg : ℕ → Memory → ℕ → ℕ
+reg p m r = pick (eqb r 10) p (m .regs r)
 
 -- f with v at k
 abbrev pub upd : (ℕ → ℕ) → ℕ → ℕ → ℕ → ℕ
 upd f k v i = pick (eqb i k) v (f i)
 
 -- register + offset
-unfoldable pub address : Memory → ℕ → ℤ → ℕ
-address m r off = wrap (reg m r + word off)
+unfoldable pub address : ℕ → Memory → ℕ → ℤ → ℕ
+address p m r off = wrap (reg p m r + word off)
 
 -- ---- an access through R10, inside the frame and aligned (rule 35), is a part of one cell
 

@@ -27,6 +27,10 @@ compute x op y = slot 0xb7 0 0 x ++ slot op 0 0 y ++ exit
 unfoldable pub branch : ℕ → ℕ → List ℕ
 branch op y = slot 0xb7 0 0 7 ++ slot op 0 1 y ++ slot 0xb7 0 0 1 ++ exit
 
+-- r0 = 7; where r10 is 512, over the next; r0 = 1; exit
+unfoldable pub compared : List ℕ
+compared = slot 0xb7 0 0 7 ++ slot 0x15 0x0a 1 512 ++ slot 0xb7 0 0 1 ++ exit
+
 -- r0 = r10; r0 = r0 − 8; exit
 unfoldable pub pointer : List ℕ
 pointer = slot 0xbf 0xa0 0 0 ++ slot 0x17 0 0 8 ++ exit
@@ -46,11 +50,15 @@ carry (on t e) k m = k t (after e m)
 carry (returns v) k m = returns v
 carry stuck k m = stuck
 
--- the outcome of n + 1 steps from slot s on; a run does not go past its end
-unfoldable pub outcome : List ℕ → (ℕ → Answer) → ℕ → ℕ → Memory → Out
-outcome b a zero s m = step (at b) (a 0) s m
-outcome b a (suc n) s m = carry (step (at b) (a (suc n)) s m) (outcome b a n) m
+-- the outcome of n + 1 steps from slot s on, with p in R10; a run does not go past its end
+unfoldable pub outcome : ℕ → List ℕ → (ℕ → Answer) → ℕ → ℕ → Memory → Out
+outcome p b a zero s m = step p (at b) (a 0) s m
+outcome p b a (suc n) s m = carry (step p (at b) (a (suc n)) s m) (outcome p b a n) m
 
 -- whatever the registers, the frame and the answers are
+abbrev pub ReturnsAt : ℕ → List ℕ → ℕ → ℕ → Type 0
+ReturnsAt p b n v = (a : ℕ → Answer) (m : Memory) → outcome p b a n 0 m ≡ returns v
+
+-- and whatever R10 holds
 abbrev pub Returns : List ℕ → ℕ → ℕ → Type 0
-Returns b n v = (a : ℕ → Answer) (m : Memory) → outcome b a n 0 m ≡ returns v
+Returns b n v = (p : ℕ) → ReturnsAt p b n v

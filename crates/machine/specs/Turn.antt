@@ -3,10 +3,12 @@ use Prim.Native.Nat.{ℕ, suc, _+_, _*_, _^_}
 use mathlib.Core.List.{List, [], _∷_}
 use lib.Dec.{eqb, leb}
 use lib.IntN.{ℤ, pos, negsuc}
+use lib.ListN.{take}
 use Rattle.wire.specs.Pick.{pick}
 use Rattle.wire.specs.Le.{bytesOf}
 use Rattle.insn.specs.Rfc.{width}
 use Rattle.insn.specs.Form.{formOf}
+use Rattle.insn.specs.Helper.{helperOf, arguments}
 use Rattle.insn.specs.declared.Insn.{Insn}
 use Rattle.insn.specs.declared.form.Form.{Form}
 use Rattle.insn.specs.declared.form.Form.the-variants.{NoForm, WideLoad, Ldx, Stx, AluImm, AluReg, MovImm, MovReg, Ja, JeqImm, JneImm, Call, Exit}
@@ -16,8 +18,8 @@ use Rattle.machine.specs.Memory.{Memory, reg, upd, address, loaded, stor
 
 -- ---- the outside
 
--- an access through a register other than R10, a store with its bytes, lowest first; a call with its helper's number, the registers
--- R1 to R5 and the frame's cells
+-- an access through a register other than R10, a store with its bytes, lowest first; a call with its helper's number, what the
+-- argument registers of that helper hold, and the frame's cells
 pub data Event : Type 0 where
   load : (address size : ℕ) → Event
   store : (address size : ℕ) (bytes : List ℕ) → Event
@@ -65,35 +67,38 @@ unfoldable pub jump : ℤ → Out
 jump (pos t) = on t keeps
 jump (negsuc t) = stuck
 
--- the instruction i at slot s, where its unused fields are 0 (rule 34); high is the imm of the slot after it
-unfoldable pub turnOf : Form → Insn → ℤ → ℕ → Memory → Turn
-turnOf NoForm i high s m = quiet stuck
-turnOf WideLoad i high s m =
+-- so many of R1 to R5, from R1 on
+unfoldable pub firstOf : Memory → ℕ → List ℕ
+firstOf m n = take n (m .regs 1 ∷ m .regs 2 ∷ m .regs 3 ∷ m .regs 4 ∷ m .regs 5 ∷ [])
+
+-- the instruction i at slot s, where its unused fields are 0 (rule 34); high is the imm of the slot after it, p what R10 holds
+unfoldable pub turnOf : ℕ → Form → Insn → ℤ → ℕ → Memory → Turn
+turnOf p NoForm i high s m = quiet stuck
+turnOf p WideLoad i high s m =
     pick (eqb (i .src) 0)
     (quiet (on (suc (suc s)) (writes (i .dst) (low 4 (word (i .imm)) + 2 ^ 32 * low 4 (word high)))))
     (maps s (λ x. on (suc (suc s)) (writes (i .dst) x)))
-turnOf (Ldx w) i high s m =
+turnOf p (Ldx w) i high s m =
     pick (eqb (i .src) 10)
     (quiet (on (suc s) (writes (i .dst) (loaded (width w) (i .off) (m .cells)))))
-    (shows (load (address m (i .src) (i .off)) (width w)) (λ a. on (suc s) (writes (i .dst) (low (width w) (a .value)))))
-turnOf (Stx w) i high s m =
+    (shows (load (address p m (i .src) (i .off)) (width w)) (λ a. on (suc s) (writes (i .dst) (low (width w) (a .value)))))
+turnOf p (Stx w) i high s m =
     pick (eqb (i .dst) 10)
-    (quiet (on (suc s) (frame (stored (width w) (i .off) (m .cells) (reg m (i .src))))))
-    (shows (store (address m (i .dst) (i .off)) (width w) (bytesOf (width w) (reg m (i .src)))) (λ a. on (suc s) (frame (a .frame (m .cells)))))
-turnOf (AluImm o) i high s m = quiet (on (suc s) (writes (i .dst) (alu o (reg m (i .dst)) (word (i .imm)))))
-turnOf (AluReg o) i high s m = quiet (on (suc s) (writes (i .dst) (alu o (reg m (i .dst)) (reg m (i .src)))))
-turnOf MovImm i high s m = quiet (on (suc s) (writes (i .dst) (word (i .imm))))
-turnOf MovReg i high s m = quiet (on (suc s) (writes (i .dst) (reg m (i .src))))
-turnOf Ja i high s m = quiet (jump (target s (i .off)))
-turnOf JeqImm i high s m = quiet (pick (eqb (reg m (i .dst)) (word (i .imm))) (jump (target s (i .off))) (on (suc s) keeps))
-turnOf JneImm i high s m = quiet (pick (eqb (reg m (i .dst)) (word (i .imm))) (on (suc s) keeps) (jump (target s (i .off))))
-turnOf Call i high s m =
-    shows (call (i .imm) (reg m 1 ∷ reg m 2 ∷ reg m 3 ∷ reg m 4 ∷ reg m 5 ∷ []) (m .cells)) (λ a. on (suc s) (calls a))
-turnOf Exit i high s m = quiet (returns (reg m 0))
+    (quiet (on (suc s) (frame (stored (width w) (i .off) (m .cells) (reg p m (i .src))))))
+    (shows (store (address p m (i .dst) (i .off)) (width w) (bytesOf (width w) (reg p m (i .src)))) (λ a. on (suc s) (frame (a .frame (m .cells)))))
+turnOf p (AluImm o) i high s m = quiet (on (suc s) (writes (i .dst) (alu o (reg p m (i .dst)) (word (i .imm)))))
+turnOf p (AluReg o) i high s m = quiet (on (suc s) (writes (i .dst) (alu o (reg p m (i .dst)) (reg p m (i .src)))))
+turnOf p MovImm i high s m = quiet (on (suc s) (writes (i .dst) (word (i .imm))))
+turnOf p MovReg i high s m = quiet (on (suc s) (writes (i .dst) (reg p m (i .src))))
+turnOf p Ja i high s m = quiet (jump (target s (i .off)))
+turnOf p JeqImm i high s m = quiet (pick (eqb (reg p m (i .dst)) (word (i .imm))) (jump (target s (i .off))) (on (suc s) keeps))
+turnOf p JneImm i high s m = quiet (pick (eqb (reg p m (i .dst)) (word (i .imm))) (on (suc s) keeps) (jump (target s (i .off))))
+turnOf p Call i high s m = shows (call (i .imm) (firstOf m (arguments (helperOf (i .imm)))) (m .cells)) (λ a. on (suc s) (calls a))
+turnOf p Exit i high s m = quiet (returns (reg p m 0))
 
 -- code is an instruction for each slot
-unfoldable pub turn : (ℕ → Insn) → ℕ → Memory → Turn
-turn code s m = turnOf (formOf (code s .code)) (code s) (code (suc s) .imm) s m
+unfoldable pub turn : ℕ → (ℕ → Insn) → ℕ → Memory → Turn
+turn p code s m = turnOf p (formOf (code s .code)) (code s) (code (suc s) .imm) s m
 
 -- with an answer, which a quiet step does not look at
 unfoldable pub given : Answer → Turn → Out
@@ -101,5 +106,5 @@ given a (quiet o) = o
 given a (maps s f) = f (a .value)
 given a (shows e f) = f a
 
-unfoldable pub step : (ℕ → Insn) → Answer → ℕ → Memory → Out
-step code a s m = given a (turn code s m)
+unfoldable pub step : ℕ → (ℕ → Insn) → Answer → ℕ → Memory → Out
+step p code a s m = given a (turn p code s m)

@@ -1,1 +1,2 @@
 pub mod Opcode
+pub mod Asks

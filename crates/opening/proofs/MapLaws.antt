@@ -21,7 +21,7 @@ use Rattle.record.specs.declared.Fault.{Fault}
 use Rattle.record.specs.declared.Fault.the-variants.{Broken}
 use Rattle.record.specs.declared.Read.{Read}
 use Rattle.record.specs.declared.Read.the-variants as Re
-use Rattle.opening.specs.Names.{sameName, among, part, Names, named, refused, onMap, namesAt}
+use Rattle.opening.specs.Names.{sameName, among, part, Names, named, refused, onMap, namesAt, Distinct}
 use Rattle.opening.specs.Places.{mapOf, mapAt, onMapAt, mapFrom}
 use Rattle.opening.specs.Inner.{Lies, takenFrom, oneMore}
 use Rattle.opening.specs.declared.MapAt.{MapAt}
@@ -361,9 +361,6 @@ names-front b (suc n) names at all end e =
     ∙ take-append-seam names (name ∷ [])
 
 -- ---- no name twice
-
-pub record Distinct (names : List (List ℕ)) : Type 0 where
-  pub apart : (i j : ℕ) → i < j → j < length names → getD names i [] ≡ getD names j [] → ⊥
 
 more-distinct : (names : List (List ℕ)) (name : List ℕ) → Distinct names → among name names ≡ false → Distinct (names ++ (name ∷ []))
 more-distinct names name d f = record { apart = λ i j h l. go i j h (rw length-append at l) (ltb j (length names)) refl }

@@ -7,7 +7,15 @@ use lib.Dec.{eqb}
 use lib.ListN.{length, take, set}
 use Rattle.wire.specs.Pick.{pick}
 use Rattle.record.specs.Frame.{lengthAt, wholeAt, nextAt}
-use Rattle.record.specs.declared.Fault.the-variants.{Broken}
+use Rattle.record.specs.declared.Fault.the-variants.{Broken, NoHead, NotDue}
+use Rattle.record.specs.declared.Read.{Read}
+use Rattle.record.specs.declared.Read.the-variants as Re
+use Rattle.recordcheck.specs.declared.Checked.{Checked}
+use Rattle.recordcheck.specs.declared.Checked.the-variants as Ch
+use Rattle.opening.specs.declared.HeadAt.{HeadAt}
+use Rattle.opening.specs.declared.HeadAt.the-variants as H
+use Rattle.opening.specs.declared.BodyAt.{BodyAt}
+use Rattle.opening.specs.declared.BodyAt.the-variants as B
 use Rattle.opening.specs.declared.MapAt.{MapAt}
 use Rattle.opening.specs.declared.MapAt.the-variants as M
 use Rattle.opening.specs.declared.names.Maps.{Maps}
@@ -60,3 +68,25 @@ oneMore b first k at (M.Refused f) = Ms.Refused f
 unfoldable pub mapsOf : Names → Maps
 mapsOf (named names at) = Ms.Until at
 mapsOf (refused f) = Ms.Refused f
+
+-- ---- a refusal handed on; where nothing was refused, any answer
+
+unfoldable pub refusedHead : Read → HeadAt
+refusedHead (Re.Record r next) = H.Refused NoHead
+refusedHead (Re.Refused f) = H.Refused f
+
+unfoldable pub refusedMap : Checked → MapAt
+refusedMap (Ch.Next kind next) = M.Refused (NotDue next)
+refusedMap (Ch.Refused f) = M.Refused f
+
+unfoldable pub refusedMaps : MapAt → Maps
+refusedMaps (M.Is start len next) = Ms.Until next
+refusedMaps (M.Refused f) = Ms.Refused f
+
+unfoldable pub refusedBody : HeadAt → BodyAt
+refusedBody (H.Is h next) = B.Is h next
+refusedBody (H.Refused f) = B.Refused f
+
+unfoldable pub refusedAfter : Maps → BodyAt
+refusedAfter (Ms.Until at) = B.Refused (NotDue at)
+refusedAfter (Ms.Refused f) = B.Refused f

@@ -1,9 +1,10 @@
 -- The head and the maps of a unit: their names in file order, and where the blocks begin.
-use Prim.Native.Nat.{ℕ, zero, suc}
+use mathlib.Core.Path.{_≡_}
+use Prim.Native.Nat.{ℕ, zero, suc, _<_}
 use mathlib.Core.Bool.{Bool, true, false}
 use mathlib.Core.List.{List, [], _∷_, _++_}
 use lib.Dec.{eqb, leb}
-use lib.ListN.{length, take, drop}
+use lib.ListN.{length, take, drop, getD}
 use Rattle.wire.specs.Pick.{pick}
 use Rattle.record.specs.Record.{readRecord}
 use Rattle.record.specs.declared.Head.{Head}
@@ -21,6 +22,10 @@ sameName [] [] = true
 sameName [] (y ∷ ys) = false
 sameName (x ∷ xs) [] = false
 sameName (x ∷ xs) (y ∷ ys) = pick (eqb x y) (sameName xs ys) false
+
+-- no name twice
+pub record Distinct (names : List (List ℕ)) : Type 0 where
+  pub apart : (i j : ℕ) → i < j → j < length names → getD names i [] ≡ getD names j [] → ⊥
 
 unfoldable pub among : List ℕ → List (List ℕ) → Bool
 among name [] = false

@@ -1,5 +1,6 @@
 // The head and the maps of a unit.
 mod names;
+mod refused;
 mod signatures;
 
 use names::Maps;
@@ -44,31 +45,29 @@ pub fn head_at(s: &[u8]) -> HeadAt
     if 262144 < s.len() {
         return HeadAt::Refused(Fault::TooLong);
     }
-    match record::read_record(s, 0, Due::Head, 0) {
-        Read::Record(r, next) => {
-            let Record::Head(head) = r else {
-                return HeadAt::Refused(Fault::NoHead);
-            };
-            HeadAt::Is(head, next)
-        }
-        Read::Refused(f) => HeadAt::Refused(f),
-    }
+    let read = record::read_record(s, 0, Due::Head, 0);
+    let Read::Record(r, next) = read else {
+        return refused::head(read);
+    };
+    let Record::Head(head) = r else {
+        return HeadAt::Refused(Fault::NoHead);
+    };
+    HeadAt::Is(head, next)
 }
 
 // The map's record at a byte.
 pub(crate) fn map_at(s: &[u8], at: usize) -> MapAt
     ensures { λ r. ⌜ (r ≡ mapAt (now (s .entry)) at) × Lies (length (now (s .entry))) r ⌝ }
 {
-    match recordcheck::check_map(s, at) {
-        Checked::Next(_, next) => {
-            let start = at + 4;
-            MapAt::Is {
-                start: start,
-                len: next - start,
-                next: next,
-            }
-        }
-        Checked::Refused(f) => MapAt::Refused(f),
+    let checked = recordcheck::check_map(s, at);
+    let Checked::Next(_, next) = checked else {
+        return refused::map(checked);
+    };
+    let start = at + 4;
+    MapAt::Is {
+        start: start,
+        len: next - start,
+        next: next,
     }
 }
 
@@ -98,16 +97,16 @@ pub fn map_from(s: &[u8], first: usize, k: u32) -> MapAt
 pub fn open_unit(s: &[u8]) -> BodyAt
     ensures { λ r. ⌜ r ≡ bodyOf (openUnit (now (s .entry))) ⌝ }
 {
-    match head_at(s) {
-        HeadAt::Is(head, first) => {
-            if head.maps == 0 {
-                return BodyAt::Is(head, first);
-            }
-            match names::read_maps(s, first, head.maps) {
-                Maps::Until(at) => BodyAt::Is(head, at),
-                Maps::Refused(f) => BodyAt::Refused(f),
-            }
-        }
-        HeadAt::Refused(f) => BodyAt::Refused(f),
+    let opened = head_at(s);
+    let HeadAt::Is(head, first) = opened else {
+        return refused::body(opened);
+    };
+    if head.maps == 0 {
+        return BodyAt::Is(head, first);
     }
+    let maps = names::read_maps(s, first, head.maps);
+    let Maps::Until(at) = maps else {
+        return refused::after_head(maps);
+    };
+    BodyAt::Is(head, at)
 }

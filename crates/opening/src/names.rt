@@ -1,5 +1,6 @@
 // The names of a unit's maps: no name twice.
 use crate::MapAt;
+use crate::refused;
 use crate::signatures;
 use record::Fault;
 ghost use mathlib.Core.Path.{_≡_};
@@ -78,20 +79,19 @@ fn one_more(s: &[u8], first: usize, k: u16, at: usize, table: &mut [u64; 64]) ->
     ensures { λ r. ⌜ r ≡ oneMore (now (s .entry)) first k at (mapAt (now (s .entry)) at) ⌝ }
     ensures { λ _. ⌜ now (table .exit) ≡ signedWith (now (s .entry)) (now (table .entry)) k (mapAt (now (s .entry)) at) ⌝ }
 {
-    match crate::map_at(s, at) {
-        MapAt::Is { start, len, next } => {
-            let end = start + len;
-            let name = &s[start..end];
-            let signature = signatures::signature(name);
-            let again = repeated(s, name, signature, first, k, table);
-            table[k as usize] = signature;
-            if again {
-                return Maps::Refused(Fault::Broken(at));
-            }
-            Maps::Until(next)
-        }
-        MapAt::Refused(f) => Maps::Refused(f),
+    let map = crate::map_at(s, at);
+    let MapAt::Is { start, len, next } = map else {
+        return refused::maps(map);
+    };
+    let end = start + len;
+    let name = &s[start..end];
+    let signature = signatures::signature(name);
+    let again = repeated(s, name, signature, first, k, table);
+    table[k as usize] = signature;
+    if again {
+        return Maps::Refused(Fault::Broken(at));
     }
+    Maps::Until(next)
 }
 
 // The maps from a byte on.
@@ -103,15 +103,12 @@ pub(crate) fn read_maps(s: &[u8], first: usize, maps: u16) -> Maps
     let mut at = first;
     let mut k: u16 = 0;
     while k < maps {
-        match one_more(s, first, k, at, &mut table) {
-            Maps::Until(next) => {
-                at = next;
-                k = k + 1;
-            }
-            Maps::Refused(f) => {
-                return Maps::Refused(f);
-            }
-        }
+        let more = one_more(s, first, k, at, &mut table);
+        let Maps::Until(next) = more else {
+            return more;
+        };
+        at = next;
+        k = k + 1;
     }
     Maps::Until(at)
 }

@@ -10,7 +10,7 @@ use Rattle.ir.specs.Operands.{listOf, firstOf, restOf}
 use Rattle.ir.specs.declared.Operand.{Operand}
 use Rattle.ir.specs.declared.Operand.the-variants.{Var, Immediate}
 use Rattle.ir.specs.declared.operands.Operands.{Operands}
-use Rattle.ir.specs.declared.operands.Head.the-variants.{Is, Nothing}
+use Rattle.ir.specs.declared.operands.Front.the-variants.{Is, Nothing}
 use Rattle.ir.proofs.OperandLaws.{first-is, first-nothing}
 use Rattle.operand.specs.Operand.{operandBytes, operandsBytes}
 use Rattle.operand.proofs.Pieces.{Puts, _▸_, nothing}

@@ -1,7 +1,7 @@
 // An operand's nine bytes, read and written, and the bytes of operands one after the other.
 use ir::Operand;
 use ir::operands;
-use ir::operands::Head;
+use ir::operands::Front;
 use ir::operands::Operands;
 use wire::lies;
 ghost use mathlib.Core.Path.{_≡_};
@@ -129,7 +129,7 @@ fn set_operands(b: &mut [u8], at: usize, list: Operands)
     let mut left = list;
     let mut i = at;
     loop {
-        let Head::Is(o) = operands::first(left) else {
+        let Front::Is(o) = operands::first(left) else {
             return;
         };
         put_operand(b, i, o);

@@ -14,10 +14,10 @@ use Rattle.shape.specs.Fields.{uses}
 use Rattle.shape.specs.Shapes.{judged}
 use Rattle.shape.specs.declared.Shapes.the-variants as Ss
 use Rattle.paths.specs.Registers.{Regs, reads, atStart}
-use Rattle.paths.specs.Way.{on, Way, begin, step, Passes}
+use Rattle.paths.specs.Way.{on, Way, begin, step, Clear, Passes}
 use Rattle.screen.specs.declared.Fault.the-variants.{PastEnd}
 use Rattle.screen.specs.declared.Verdict.the-variants.{Refused}
-use Rattle.screen.specs.Verdict.{Clear, Judged, past}
+use Rattle.screen.specs.Verdict.{Judged, past}
 use Rattle.ours.proofs.Safe.{goes-on}
 use Rattle.ours.proofs.Pieces.{kept-none, kept-cons, has-form, as-seen, fine-here}
 use Rattle.ours.proofs.Whole.{first, keeps-first, first-narrow, code, code-slots, whole, judged-right}

@@ -48,10 +48,10 @@ slots-are e = ap (λ (y : Laid). slotsOf (ops y)) e
 
 -- ---- a block's instructions
 
-record Body (l : List Op) : Type 1 where
-  narrow : Narrow l
-  fine : (b : List ℕ) (xs : List Start) (s : ℕ) → Here b xs s l → s + slotsOf l < slots b → Kept b s (slotsOf l)
-  safe : (b : List ℕ) (xs : List Start) (Out : ℕ → Type 0) (s : ℕ) → Here b xs s l → s + slotsOf l < slots b → Inside b Out (s + slotsOf l) base → Inside b Out s base
+pub record Body (l : List Op) : Type 1 where
+  pub narrow : Narrow l
+  pub fine : (b : List ℕ) (xs : List Start) (s : ℕ) → Here b xs s l → s + slotsOf l < slots b → Kept b s (slotsOf l)
+  pub safe : (b : List ℕ) (xs : List Start) (Out : ℕ → Type 0) (s : ℕ) → Here b xs s l → s + slotsOf l < slots b → Inside b Out (s + slotsOf l) base → Inside b Out s base
 
 body-none : Body []
 unfolding slotsOf
@@ -71,7 +71,7 @@ body-join {a} {c} p q =
           (inside (q .safe b xs Out (s + slotsOf a) (back b xs s a c (p .narrow) h) (omega arith) (rw e at i)));
     }
 
-moved : {x : Lowered} {D E : Regs} → Moves x D E → (l : List Op) → x ≡ becomes l → Piece l D E
+pub moved : {x : Lowered} {D E : Regs} → Moves x D E → (l : List Op) → x ≡ becomes l → Piece l D E
 moved {D = D} {E = E} (Moves.some {l = k} p) l e = let q : k ≡ l = cc in subst (λ (y : List Op). Piece y D E) q p
 moved Moves.none l e = let z : _≡_ {A = ℕ} 0 1 = cc in absurd (omega arith)
 
@@ -90,19 +90,19 @@ module _ (c : Context) (cells : Cells (c .frame)) where
 
   -- ---- a block, and those after it
 
-  record Parts (j : ℕ) (k : BasicBlock) (ks : List BasicBlock) (l : List Op) : Type 1 where
-    body : List Op
-    tail : List Op
-    rest : List Op
-    is : l ≡ body ++ tail ++ rest
-    within : Body body
-    ending : Ending tail
-    inner : slotsIn (instructions c j (k .instructions)) ≡ slotsOf body
-    last : ops (at (k .ending) (terminator (c .frame) (k .terminator))) ≡ tail
-    whole : slotsIn (block c j k) ≡ slotsOf body + slotsOf tail
-    others : blocks c (scratchThrough j (k .instructions)) ks ≡ laid rest
+  pub record Parts (j : ℕ) (k : BasicBlock) (ks : List BasicBlock) (l : List Op) : Type 1 where
+    pub body : List Op
+    pub tail : List Op
+    pub rest : List Op
+    pub is : l ≡ body ++ tail ++ rest
+    pub within : Body body
+    pub ending : Ending tail
+    pub inner : instructions c j (k .instructions) ≡ laid body
+    pub last : ops (at (k .ending) (terminator (c .frame) (k .terminator))) ≡ tail
+    pub whole : slotsIn (block c j k) ≡ slotsOf body + slotsOf tail
+    pub others : blocks c (scratchThrough j (k .instructions)) ks ≡ laid rest
 
-  parts : (j : ℕ) (k : BasicBlock) (ks : List BasicBlock) (l : List Op) → blocks c j (k ∷ ks) ≡ laid l → Parts j k ks l
+  pub parts : (j : ℕ) (k : BasicBlock) (ks : List BasicBlock) (l : List Op) → blocks c j (k ∷ ks) ≡ laid l → Parts j k ks l
   unfolding blocks block ops _then_
   parts j k ks l e =
       let m = split (block c j k) (blocks c (scratchThrough j (k .instructions)) ks) l e in
@@ -114,7 +114,7 @@ module _ (c : Context) (cells : Cells (c .frame)) where
         is = m .is ∙ ap (λ (y : List Op). y ++ m .second) (n .is);
         within = bodies j (k .instructions) (n .first) (n .before);
         ending = ended (ends (c .frame) cells (k .terminator)) (n .second) (at-is (k .ending) _ (n .second) (n .behind));
-        inner = slots-are (n .before);
+        inner = n .before;
         last = ap ops (n .behind);
         whole = slots-are (m .before) ∙ ap slotsOf (n .is) ∙ slots-append (n .first) (n .second);
         others = m .behind;
@@ -170,7 +170,7 @@ module _ (c : Context) (cells : Cells (c .frame)) where
       landed j s k ks l P e =
           let own = patches (k .ending) (s + slotsIn (instructions c j (k .instructions))) (ops (at (k .ending) (terminator (c .frame) (k .terminator)))) in
           let m = landing-parts xs own (jumpsFrom c (scratchThrough j (k .instructions)) (s + slotsIn (block c j k)) ks) e in
-          (rw (P .inner, P .last) at (m .0), m .1)
+          (rw (slots-are (P .inner), P .last) at (m .0), m .1)
 
       pub blocks-fine : (j s : ℕ) (ks : List BasicBlock) (l : List Op) → blocks c j ks ≡ laid l → Here b xs s l → s + slotsOf l ≤ slots b → landing xs (jumpsFrom c j s ks) ≡ lands → Kept b s (slotsOf l)
       unfolding blocks slotsOf

@@ -11,18 +11,20 @@ use lib.Dec.{eqb}
 use lib.IntN.{ℤ, pos, _+ℤ_, _-ℤ_, +ℤ-comm, +ℤ-assoc, -ℤ-+ℤ-cancel}
 use lib.Signed.{mag}
 use Rattle.wire.specs.Pick.{pick}
+use Rattle.wire.specs.Range.{fits16, fits32}
 use Rattle.ir.specs.declared.Operand.{Operand}
 use Rattle.ir.specs.declared.Operand.the-variants.{Var, Immediate}
 use Rattle.ir.specs.declared.Terminator.{Terminator}
 use Rattle.ir.specs.declared.Terminator.the-variants.{Return, Jump, Branch}
-use Rattle.insn.specs.Form.{opcodeOf}
+use Rattle.insn.specs.Form.{opcodeOf, formOf}
 use Rattle.insn.specs.declared.Insn.{Insn}
 use Rattle.insn.specs.declared.form.Form.the-variants.{Ja, JneImm, Exit}
+use Rattle.insn.proofs.Forms.{form-opcode}
 use Rattle.frame.specs.Cell.{Frame}
 use Rattle.frame.specs.declared.Cell.{Cell}
 use Rattle.frame.specs.declared.Cell.the-variants.{At, Missing}
-use Rattle.lower.specs.Op.{Op, plain, ja, jne, Lowered, becomes, refused, insn, slotsOf, _▸_}
-use Rattle.lower.specs.Operand.{fits16, fits32, constant, onCell, load}
+use Rattle.lower.specs.Op.{Op, plain, map, ja, jne, Lowered, becomes, refused, insn, slotsOf, _▸_}
+use Rattle.lower.specs.Operand.{constant, onCell, load}
 use Rattle.lower.specs.Terminator.{terminator}
 use Rattle.lower.specs.declared.Reason.{Reason}
 use Rattle.layout.specs.Jumps.{Start, Target, to, nowhere, orThis, lastStart, distance, Landing, lands, noTarget, tooFar, onTarget, orRest, landing, jas, jnes, patches}
@@ -107,23 +109,40 @@ distance-target t own =
 
 -- ---- the three endings
 
+abbrev pub Jumpless : Insn → Type 0
+Jumpless i = uses (formOf (i .code)) .jumps ≡ false
+
 -- EXIT comes where R0 is readable, JNE after a load of R0
 pub data Ending : List Op → Type 1 where
-  returns : {i : Insn} {D : Regs} → Piece (plain i ∷ []) base D → D 0 ≡ true → Ending (plain i ∷ plain exits ∷ [])
+  returns : {i : Insn} {D : Regs} → Jumpless i → Piece (plain i ∷ []) base D → D 0 ≡ true → Ending (plain i ∷ plain exits ∷ [])
   jumps : (id : ℕ) → Ending (ja id ∷ [])
-  branches : {i : Insn} → Piece (plain i ∷ []) base (with 0 base) → (id other : ℕ) → Ending (plain i ∷ jne id ∷ ja other ∷ [])
+  branches : {i : Insn} → Jumpless i → Piece (plain i ∷ []) base (with 0 base) → (id other : ℕ) → Ending (plain i ∷ jne id ∷ ja other ∷ [])
 
 pub ending-narrow : {l : List Op} → Ending l → Narrow l
 unfolding uses
-ending-narrow (returns p d) = (p .narrow .0, (slim Exit (omega arith), tt))
+ending-narrow (returns n p d) = (p .narrow .0, (slim Exit (omega arith), tt))
 ending-narrow (jumps id) = tt
-ending-narrow (branches p id other) = (p .narrow .0, tt)
+ending-narrow (branches n p id other) = (p .narrow .0, tt)
 
 pub ending-some : {l : List Op} → Ending l → 0 < slotsOf l
 unfolding slotsOf
-ending-some (returns p d) = omega arith
+ending-some (returns n p d) = omega arith
 ending-some (jumps id) = omega arith
-ending-some (branches p id other) = omega arith
+ending-some (branches n p id other) = omega arith
+
+-- what jumps in them goes to a block, and each operation is one slot
+abbrev pub Blockward : List Op → Type 0
+Blockward [] = Unit {0}
+Blockward (plain i ∷ l) = Jumpless i × Blockward l
+Blockward (map m ∷ l) = ⊥
+Blockward (ja id ∷ l) = Blockward l
+Blockward (jne id ∷ l) = Blockward l
+
+pub ending-blockward : {l : List Op} → Ending l → Blockward l
+unfolding uses
+ending-blockward (returns n p d) = (n, (rw form-opcode, tt))
+ending-blockward (jumps id) = tt
+ending-blockward (branches n p id other) = (n, tt)
 
 -- ---- where they stand
 
@@ -172,12 +191,12 @@ module _ (b : List ℕ) (xs : List Start) (good : (p : ℕ) → Slot xs p → (p
     -- its instructions keep the shape rules
     pub ending-fine : {l : List Op} → Ending l → Here b xs s l → s + slotsOf l ≤ slots b → landing xs (patches place s l) ≡ lands → Kept b s (slotsOf l)
     unfolding slotsOf insns patches jas jnes uses
-    ending-fine (returns {i} p d) h r e =
+    ending-fine (returns {i} _ p d) h r e =
         let n = after-plain b xs s i _ (p .narrow .0) h .1 in
         kept-cons (p .fine b xs s (front b xs s (plain i ∷ []) (plain exits ∷ []) h) (omega arith) .each s (omega arith) (omega arith) (h .begins))
         (kept-cons (fine-here b (suc s) keeps-exit (n .stands .0) refl) kept-none)
     ending-fine (jumps id) h r e = ja-fine s id (landing-first xs _ _ e .0) (h .stands .0)
-    ending-fine (branches {i} p id other) h r e =
+    ending-fine (branches {i} _ p id other) h r e =
         let n = after-plain b xs s i _ (p .narrow .0) h .1 in
         let far = landing-first xs _ _ e in
         kept-cons (p .fine b xs s (front b xs s (plain i ∷ []) (jne id ∷ ja other ∷ []) h) (omega arith) .each s (omega arith) (omega arith) (h .begins))
@@ -186,12 +205,12 @@ module _ (b : List ℕ) (xs : List Start) (good : (p : ℕ) → Slot xs p → (p
     -- from R6 and R10 its paths are safe
     pub ending-inside : {l : List Op} → Ending l → Here b xs s l → s + slotsOf l ≤ slots b → landing xs (patches place s l) ≡ lands → Inside b (Slot xs) s base
     unfolding slotsOf insns patches jas jnes uses reads after
-    ending-inside (returns {i} {D} p d) h r e =
+    ending-inside (returns {i} {D} _ p d) h r e =
         let n = after-plain b xs s i _ (p .narrow .0) h .1 in
         let o : Safe b (Slot xs) (suc s) D = inside (exit-inside b (suc s) (n .stands .0) (omega arith) d) in
         p .safe b xs (Slot xs) s (front b xs s (plain i ∷ []) (plain exits ∷ []) h) (omega arith) (rw add-one o)
     ending-inside (jumps id) h r e = ja-inside s id (landing-first xs _ _ e .0) under-same (omega arith) (h .stands .0)
-    ending-inside (branches {i} p id other) h r e =
+    ending-inside (branches {i} _ p id other) h r e =
         let n = after-plain b xs s i _ (p .narrow .0) h .1 in
         let far = landing-first xs _ _ e in
         let u = under-with 0 in
@@ -202,22 +221,22 @@ module _ (b : List ℕ) (xs : List Start) (good : (p : ℕ) → Slot xs p → (p
 -- ---- each terminator becomes one of them, or is refused
 
 data Alone : Lowered → Type 0 where
-  one : (i : Insn) → Alone (becomes (plain i ∷ []))
+  one : (i : Insn) → Jumpless i → Alone (becomes (plain i ∷ []))
   nothing : {r : Reason} → Alone (refused r)
 
-a-constant : (t : Bool) (i : Insn) (r : Reason) → Alone (pick t (becomes (plain i ∷ [])) (refused r))
-a-constant true i r = one i
-a-constant false i r = nothing
+a-constant : (t : Bool) (i : Insn) (r : Reason) → Jumpless i → Alone (pick t (becomes (plain i ∷ [])) (refused r))
+a-constant true i r n = one i n
+a-constant false i r n = nothing
 
-a-cell : (v : ℕ) (x : Cell) (g : ℤ → Insn) → Alone (onCell v x (λ z. becomes (plain (g z) ∷ [])))
+a-cell : (v : ℕ) (x : Cell) (g : ℤ → Insn) → ((z : ℤ) → Jumpless (g z)) → Alone (onCell v x (λ z. becomes (plain (g z) ∷ [])))
 unfolding onCell
-a-cell v (At z) g = one (g z)
-a-cell v Missing g = nothing
+a-cell v (At z) g n = one (g z) (n z)
+a-cell v Missing g n = nothing
 
 a-load : (f : Frame) (r : ℕ) (o : Operand) → Alone (load f r o)
-unfolding load constant insn
-a-load f r (Var v) = a-cell v (f .cell v) _
-a-load f r (Immediate z) = a-constant (fits32 z) _ _
+unfolding load constant insn uses
+a-load f r (Var v) = a-cell v (f .cell v) _ (λ z. rw form-opcode)
+a-load f r (Immediate z) = a-constant (fits32 z) _ _ (rw form-opcode)
 
 pub data Ends : Lowered → Type 1 where
   some : {l : List Op} → Ending l → Ends (becomes l)
@@ -225,12 +244,12 @@ pub data Ends : Lowered → Type 1 where
 
 e-return : {x : Lowered} → Moves x base (with 0 base) → Alone x → Ends (x ▸ insn Exit 0 0 (pos 0) (pos 0))
 unfolding _▸_ insn
-e-return (Moves.some p) (one i) = some (returns p (with-has 0 base))
+e-return (Moves.some p) (one i n) = some (returns n p (with-has 0 base))
 e-return Moves.none nothing = none
 
 e-branch : {x : Lowered} → Moves x base (with 0 base) → Alone x → (id other : ℕ) → Ends (x ▸ becomes (jne id ∷ ja other ∷ []))
 unfolding _▸_
-e-branch (Moves.some p) (one i) id other = some (branches p id other)
+e-branch (Moves.some p) (one i n) id other = some (branches n p id other)
 e-branch Moves.none nothing id other = none
 
 pub ends : (f : Frame) → Cells f → (t : Terminator) → Ends (terminator f t)

@@ -13,7 +13,7 @@ use Rattle.layout.specs.Code.{insns, relocations}
 use Rattle.shape.specs.Code.{slots, start}
 use Rattle.shape.specs.Fields.{uses}
 use Rattle.paths.specs.Registers.{reads, atStart, with, after}
-use Rattle.screen.proofs.Exact.{NoFault}
+use Rattle.screen.specs.Faultless.{NoFault}
 use Rattle.ours.proofs.Safe.{holds-base, out, Inside, inside, no-path-fault}
 use Rattle.ours.proofs.Standing.{Here, after-plain}
 use Rattle.ours.proofs.Pieces.{Kept, kept-cons, fine-here, step-here}

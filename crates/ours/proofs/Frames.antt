@@ -4,24 +4,20 @@ use mathlib.Core.Bool.{Bool, true, false}
 use mathlib.Core.List.{List, [], _∷_}
 use Prim.Native.Nat.{ℕ, suc, _+_, _*_, _%_}
 use native.Mathlib.Omega.{arith}
-use borrow.Author.Tests.{le-leb, eq-eqb}
 use lib.Dec.{eqb}
 use lib.IntN.{ℤ}
 use lib.ListN.{length}
 use Rattle.wire.specs.Pick.{pick}
 use Rattle.frame.specs.Cell.{offsetOf, cellFrom, frameOf}
 use Rattle.frame.specs.declared.Cell.the-variants.{At}
-use Rattle.shape.specs.Shape.{inFrame}
-use Rattle.ours.proofs.Instructions.{InFrame, Cells}
+use Rattle.frame.specs.Apart.{InFrame}
+use Rattle.ours.proofs.Instructions.{Cells}
 
 offset-in : (i : ℕ) → InFrame (offsetOf i)
-unfolding offsetOf inFrame
+unfolding offsetOf
 offset-in i =
-    let n = 8 * (i % 64) + 7 in
-    record {
-      lies = simp (le-leb (suc n) 512 (omega arith), le-leb 8 (suc n) (omega arith), eq-eqb (suc n % 8) 0 (omega arith));
-      small = omega arith;
-    }
+    let e : 8 * suc (i % 64) ≡ suc (8 * (i % 64) + 7) = omega arith in
+    record { number = i % 64; below = omega arith; is = rw e }
 
 cell-in : (i : ℕ) (vs : List ℕ) (v : ℕ) (z : ℤ) → cellFrom i vs v ≡ At z → InFrame z
 unfolding cellFrom

@@ -3,13 +3,14 @@ use mathlib.Core.Path.{_≡_, refl}
 use mathlib.Core.Bool.{Bool, true, false}
 use mathlib.Core.Logic.{_⊎_, inl, inr, ⊎-elim}
 use mathlib.Core.List.{List, [], _∷_}
-use Prim.Native.Nat.{ℕ, _^_, _<_, _≤_}
+use Prim.Native.Nat.{ℕ, suc, _+_, _*_, _%_, _^_, _<_, _≤_}
 use native.Mathlib.Omega.{arith}
-use borrow.Author.Tests.{eqb-true, ltb-true}
+use borrow.Author.Tests.{eqb-true, ltb-true, le-leb, eq-eqb}
 use lib.Dec.{eqb}
 use lib.IntN.{ℤ, pos}
 use lib.Signed.{mag}
 use Rattle.wire.specs.Pick.{pick, either}
+use Rattle.wire.specs.Range.{fits16, fits32}
 use Rattle.ir.specs.Operands.{listOf}
 use Rattle.ir.specs.declared.BinaryOp.{BinaryOp}
 use Rattle.ir.specs.declared.BinaryOp.the-variants.{Add}
@@ -20,6 +21,7 @@ use Rattle.ir.specs.declared.Opcode.the-variants as C
 use Rattle.ir.specs.declared.Instruction.{Instruction}
 use Rattle.insn.specs.Rfc.{LDX, STX, width}
 use Rattle.insn.specs.Form.{opcodeOf, formOf, memCode}
+use Rattle.insn.specs.Helper.{helpers, among, helperOf, isHelper, arguments}
 use Rattle.insn.specs.declared.MemCode.{MemCode}
 use Rattle.insn.specs.declared.MemCode.the-variants as M
 use Rattle.insn.specs.declared.form.Size.{Size}
@@ -30,13 +32,14 @@ use Rattle.insn.proofs.Widths.{ldx-form, stx-form}
 use Rattle.frame.specs.Cell.{Frame}
 use Rattle.frame.specs.declared.Cell.{Cell}
 use Rattle.frame.specs.declared.Cell.the-variants.{At, Missing}
+use Rattle.frame.specs.Apart.{InFrame}
 use Rattle.lower.specs.Op.{Op, Lowered, becomes, refused, insn, _▸_}
-use Rattle.lower.specs.Operand.{fits16, fits32, constant, move, add, call, onCell, load, addr, next, keep, mapAddress}
+use Rattle.lower.specs.Operand.{constant, move, add, call, onCell, load, addr, next, keep, mapAddress}
 use Rattle.lower.specs.Instruction.{onFirst, onTwo, onThree, onNone, sized, mem, operate, fromContext, helperCall, nullCheck, opcode, instruction}
 use Rattle.lower.specs.declared.Reason.{Reason}
 use Rattle.shape.specs.Fields.{uses}
-use Rattle.shape.specs.Shape.{helpers, among, isHelper, inFrame}
-use Rattle.paths.specs.Registers.{Regs, arguments, reads, with, called, after}
+use Rattle.shape.specs.Shape.{inFrame}
+use Rattle.paths.specs.Registers.{Regs, reads, with, called, after}
 use Rattle.ours.proofs.Safe.{base, Under, under-all, holds-base}
 use Rattle.ours.proofs.Pieces.{Piece, join, asking, single, map-piece}
 use Rattle.ours.proofs.Steps.{none-read, one-read, two-read, with-has, under-with, Upto, Takes, call-ready, keeps-mov, keeps-move, keeps-alu, keeps-reg, keeps-ldx, keeps-stx, keeps-call}
@@ -44,10 +47,21 @@ use Rattle.ours.proofs.NullCheck.{choosing-piece, leaving-piece}
 
 -- ---- cells
 
--- an access of 8 bytes through R10 at z lies in the frame, and z is a number of 16 bits
-pub record InFrame (z : ℤ) : Type 0 where
-  pub lies : inFrame z 8 ≡ true
-  pub small : mag z < 2 ^ 15
+-- an access of 8 bytes through R10 at an offset of the frame keeps rule 35
+lies : (z : ℤ) → InFrame z → inFrame z 8 ≡ true
+unfolding inFrame
+lies z F =
+    let n = 8 * F .number + 7 in
+    let e : 8 * suc (F .number) ≡ suc n = omega arith in
+    let small = F .below in
+    rw (F .is, e) (simp (le-leb (suc n) 512 (omega arith), le-leb 8 (suc n) (omega arith), eq-eqb (suc n % 8) 0 (omega arith)))
+
+-- and the offset is a number of 16 bits
+small : (z : ℤ) → InFrame z → mag z < 2 ^ 15
+small z F =
+    let e : 8 * suc (F .number) ≡ suc (8 * F .number + 7) = omega arith in
+    let few = F .below in
+    rw (F .is, e) (omega arith)
 
 pub record Cells (f : Frame) : Type 0 where
   pub cell : (v : ℕ) (z : ℤ) → f .cell v ≡ At z → InFrame z
@@ -108,7 +122,7 @@ module _ {D : Regs} where
     m-load r (Var v) l d =
         m-cell v (f .cell v) _ (λ z e.
         let k = c .cell v z e in
-        some (single (keeps-ldx (opcodeOf (Ldx Dw)) Dw r 10 z (form-opcode (Ldx Dw)) l (omega arith) (k .small) (k .lies)) refl refl (one-read 10 (λ x. refl) d)))
+        some (single (keeps-ldx (opcodeOf (Ldx Dw)) Dw r 10 z (form-opcode (Ldx Dw)) l (omega arith) (small _ k) (lies _ k)) refl refl (one-read 10 (λ x. refl) d)))
     m-load r (Immediate z) l d = m-constant r z l
 
     m-keep : (v : ℕ) → D 10 ≡ true → D 0 ≡ true → Moves (keep f v) D D
@@ -116,13 +130,13 @@ module _ {D : Regs} where
     m-keep v d e =
         m-cell v (f .cell v) _ (λ z q.
         let k = c .cell v z q in
-        some (single (keeps-stx (opcodeOf (Stx Dw)) Dw 10 0 z (form-opcode (Stx Dw)) (omega arith) (omega arith) (k .small) (k .lies)) refl refl (two-read 10 0 (λ x. refl) d e)))
+        some (single (keeps-stx (opcodeOf (Stx Dw)) Dw 10 0 z (form-opcode (Stx Dw)) (omega arith) (omega arith) (small _ k) (lies _ k)) refl refl (two-read 10 0 (λ x. refl) d e)))
 
     m-scratch : (r j : ℕ) → r < 10 → D 10 ≡ true → D r ≡ true → Moves (insn (Stx Dw) 10 r (f .scratch j) (pos 0)) D D
     unfolding insn uses reads after width
     m-scratch r j l d e =
         let k = c .scratch j in
-        some (single (keeps-stx (opcodeOf (Stx Dw)) Dw 10 r (f .scratch j) (form-opcode (Stx Dw)) (omega arith) (omega arith) (k .small) (k .lies)) refl refl (two-read 10 r (λ x. refl) d e))
+        some (single (keeps-stx (opcodeOf (Stx Dw)) Dw 10 r (f .scratch j) (form-opcode (Stx Dw)) (omega arith) (omega arith) (small _ k) (lies _ k)) refl refl (two-read 10 r (λ x. refl) d e))
 
 m-mem-ldx : (code : ℕ) (w : Size) (o : ℤ) {D : Regs} → formOf code ≡ Ldx w → fits16 o ≡ true → D 6 ≡ true → Moves (mem code 0 6 o) D (with 0 D)
 unfolding mem uses reads after fits16
@@ -199,7 +213,7 @@ record Known : Type 0 where
   kernel-text : Takes 115 3
 
 knows : Known
-unfolding isHelper among helpers arguments
+unfolding isHelper helperOf among helpers arguments
 knows =
     record {
       lookup = record { helper = refl; takes = refl; small = omega arith };

@@ -37,7 +37,7 @@ use Rattle.ours.proofs.Endings.{distance-target, Reaches}
 
 -- ---- operations among others
 
-stand-back : {s p : ℕ} (a : List Op) {l m : List Op} → StandAt (s + slotsOf a) l p m → StandAt s (a ++ l) p m
+pub stand-back : {s p : ℕ} (a : List Op) {l m : List Op} → StandAt (s + slotsOf a) l p m → StandAt s (a ++ l) p m
 stand-back a t =
     record {
       before = a ++ t .before;
@@ -46,7 +46,7 @@ stand-back a t =
       slot = omega (arith, slots-append a (t .before), t .slot);
     }
 
-stand-front : {s p : ℕ} {l : List Op} (b : List Op) {m : List Op} → StandAt s l p m → StandAt s (l ++ b) p m
+pub stand-front : {s p : ℕ} {l : List Op} (b : List Op) {m : List Op} → StandAt s l p m → StandAt s (l ++ b) p m
 stand-front b t =
     record { before = t .before; after = t .after ++ b; is = ap (λ (k : List Op). k ++ b) (t .is) ∙ simp append-assoc; slot = t .slot }
 

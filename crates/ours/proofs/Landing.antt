@@ -1,4 +1,4 @@
--- Every jump of a terminator lands on the last emitted block with the id it names, and its offset is the distance; 19 where that is too far.
+-- Every jump of a terminator lands on the last emitted block with the id it names, and its offset is the distance; 18 where there is none, 19 where that is too far.
 use mathlib.Core.Path.{_≡_, refl, sym, ap, _∙_, subst}
 use mathlib.Core.Bool.{true, false}
 use mathlib.Core.Logic.{_⊎_, inl, inr, ⊎-elim}
@@ -9,16 +9,16 @@ use native.Mathlib.Omega.{arith}
 use borrow.Author.Tests.{eq-eqb, ne-eqb, lt-ltb, le-ltb}
 use lib.IntN.{ℤ, pos, negsuc}
 use lib.Signed.{mag}
+use Rattle.wire.specs.Range.{fits16}
 use Rattle.unitfile.specs.Unit.{BasicBlock}
 use Rattle.lower.specs.Op.{Op}
-use Rattle.lower.specs.Operand.{fits16}
 use Rattle.layout.specs.Layout.{laid, Context, block, unitOps, ops}
 use Rattle.layout.specs.Jumps.{Start, startsFrom, starts, to, nowhere, orThis, lastStart, distance, Jump, jumps, Landing, lands, noTarget, tooFar, onTarget, orRest, landing}
 use Rattle.layout.specs.Code.{insns, codeBytes}
 use Rattle.shape.specs.Code.{at}
-use Rattle.ours.specs.Landing.{beginsFrom, begins, scratchLeft, StandAt, NoneHas, LastBlock, OnLast, JumpTo, Among, InRange, Near}
+use Rattle.ours.specs.Landing.{beginsFrom, begins, scratchLeft, StandAt, NoneHas, LastBlock, OnLast, InRange, Near, FirstAtFault}
 use Rattle.ours.proofs.Endings.{Reaches, landing-first}
-use Rattle.ours.proofs.Jumping.{Jumped, jumped, each-jump, block-placed}
+use Rattle.ours.proofs.Jumping.{Jumped, jumped, block-placed}
 
 -- ---- the last block with an id
 
@@ -86,10 +86,12 @@ rest-by lands y z r e k = k e
 rest-by (noTarget p i) y z r e k = let w : _≡_ {A = ℕ} 0 1 = cc in absurd (omega arith)
 rest-by (tooFar p i) y z r e k = let w : _≡_ {A = ℕ} 0 1 = cc in absurd (omega arith)
 
-first-far : (xs : List Start) (front : List Jump) (x : Jump) (back : List Jump) (t : ℕ) → landing xs front ≡ lands → lastStart xs (x .id) ≡ to t → fits16 (distance t (x .own)) ≡ false → landing xs (front ++ (x ∷ back)) ≡ tooFar (x .place) (x .id)
-unfolding landing onTarget orRest
-first-far xs [] x back t e h f = rw (h, f)
-first-far xs (j ∷ front) x back t e h f = rest-by (onTarget j (lastStart xs (j .id))) (landing xs front) _ _ e (λ d. first-far xs front x back t d h f)
+-- the first jump that does not land decides
+first-fault : (xs : List Start) (front : List Jump) (x : Jump) (back : List Jump) (f : Landing)
+    → landing xs front ≡ lands → onTarget x (lastStart xs (x .id)) ≡ f → ((y : Landing) → orRest f y ≡ f) → landing xs (front ++ (x ∷ back)) ≡ f
+unfolding landing orRest
+first-fault xs [] x back f e h k = rw h (k (landing xs back))
+first-fault xs (j ∷ front) x back f e h k = rest-by (onTarget j (lastStart xs (j .id))) (landing xs front) _ _ e (λ d. first-fault xs front x back f d h k)
 
 -- ---- the theorems
 
@@ -117,11 +119,6 @@ pub block-stands : (c : Context) (bs : List BasicBlock) (l : List Op) → unitOp
     → (id : ℕ) (last : LastBlock bs id) → StandAt 0 l (begins c (last .front)) (ops (block c (scratchLeft 0 (last .front)) (last .this)))
 block-stands c bs l e id last = block-placed c bs l e (last .front) (last .this) (last .back) (last .is)
 
--- and every JA and JNE to a block is one of those jumps
-pub every-jump : (c : Context) (bs : List BasicBlock) (l : List Op) → unitOps c bs ≡ laid l
-    → (slot : ℕ) (o : Op) (id : ℕ) → StandAt 0 l slot (o ∷ []) → JumpTo o id → Among (jumps c bs) slot id
-every-jump c bs l e = each-jump c bs l e (Among (jumps c bs)) (λ x m. record { jump = x; one = m; own = refl; names = refl })
-
 -- a jump's offset field is target slot − own slot − 1
 pub offset-exact : (c : Context) (bs : List BasicBlock) (l : List Op) → unitOps c bs ≡ laid l → landing (starts c bs) (jumps c bs) ≡ lands
     → (x : Jump) → List·Memᴰ x (jumps c bs) → (last : LastBlock bs (x .id))
@@ -135,12 +132,23 @@ never-wrapped c bs x m last far h =
     let R = reached (starts c bs) (jumps c bs) h x m in
     far (rw (← same-slot c bs (x .own) (x .id) R last) (within _ (R .near)))
 
--- by 19 with the jump's place and the id, where no jump before it in patch order is at fault
-pub too-far : (c : Context) (bs : List BasicBlock) (front : List Jump) (x : Jump) (back : List Jump) → jumps c bs ≡ front ++ (x ∷ back) → landing (starts c bs) front ≡ lands
-    → (last : LastBlock bs (x .id)) → (InRange (distance (begins c (last .front)) (x .own)) → ⊥) → landing (starts c bs) (jumps c bs) ≡ tooFar (x .place) (x .id)
-too-far c bs front x back e h last far = rw e (first-far (starts c bs) front x back (begins c (last .front)) h (last-start c (x .id) bs last) (outside _ far))
-
--- and only such a jump, or one with no emitted target, is refused
-pub near-lands : (c : Context) (bs : List BasicBlock) → ((x : Jump) → List·Memᴰ x (jumps c bs) → Near c bs x) → landing (starts c bs) (jumps c bs) ≡ lands
+-- only a jump with no emitted target, or one too far from it, is refused
+near-lands-in : (c : Context) (bs : List BasicBlock) (js : List Jump) → ((x : Jump) → List·Memᴰ x js → Near c bs x) → landing (starts c bs) js ≡ lands
 unfolding onTarget
-near-lands c bs h = all-land (starts c bs) (jumps c bs) (λ x m. let n = h x m in rw (last-start c (x .id) bs (n .block), inside _ (n .near)))
+near-lands-in c bs js h = all-land (starts c bs) js (λ x m. let n = h x m in rw (last-start c (x .id) bs (n .block), inside _ (n .near)))
+
+pub near-lands : (c : Context) (bs : List BasicBlock) → ((x : Jump) → List·Memᴰ x (jumps c bs) → Near c bs x) → landing (starts c bs) (jumps c bs) ≡ lands
+near-lands c bs h = near-lands-in c bs (jumps c bs) h
+
+-- and the first of them is named, by the place of its terminator and the id: 18 where no emitted block has that id, 19 where the last that has it is too far
+module _ (c : Context) (bs : List BasicBlock) (x : Jump) (first : FirstAtFault c bs x) where
+  named : (f : Landing) → onTarget x (lastStart (starts c bs) (x .id)) ≡ f → ((y : Landing) → orRest f y ≡ f) → landing (starts c bs) (jumps c bs) ≡ f
+  named f h k = rw (first .is) (first-fault (starts c bs) (first .front) x (first .back) f (near-lands-in c bs (first .front) (first .near)) h k)
+
+  pub no-target : NoneHas bs (x .id) → landing (starts c bs) (jumps c bs) ≡ noTarget (x .place) (x .id)
+  unfolding starts onTarget orRest
+  no-target n = named (noTarget (x .place) (x .id)) (rw (no-start c (x .id) 0 1 bs n)) (λ y. refl)
+
+  pub too-far : (last : LastBlock bs (x .id)) → (InRange (distance (begins c (last .front)) (x .own)) → ⊥) → landing (starts c bs) (jumps c bs) ≡ tooFar (x .place) (x .id)
+  unfolding onTarget orRest
+  too-far last far = named (tooFar (x .place) (x .id)) (rw (last-start c (x .id) bs last, outside _ far)) (λ y. refl)

@@ -15,4 +15,5 @@ pub mod Sizes
 pub mod Room
 pub mod Ours
 pub mod Jumping
+pub mod OwnJumps
 pub mod Landing

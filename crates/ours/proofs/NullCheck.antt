@@ -8,11 +8,11 @@ use native.Mathlib.Numerals.{add-one}
 use native.Mathlib.Omega.{arith}
 use borrow.Author.Tests.{lt-ltb}
 use lib.IntN.{pos}
+use Rattle.wire.specs.Range.{fits32}
 use Rattle.insn.specs.Form.{opcodeOf}
 use Rattle.insn.specs.declared.Insn.{Insn}
 use Rattle.insn.specs.declared.form.Form.the-variants.{MovImm, Ja, JeqImm, Exit}
 use Rattle.lower.specs.Op.{Op, plain, slotsOf}
-use Rattle.lower.specs.Operand.{fits32}
 use Rattle.layout.specs.Jumps.{Start}
 use Rattle.layout.specs.Code.{insns}
 use Rattle.shape.specs.Code.{slots, at, start}
@@ -21,10 +21,11 @@ use Rattle.shape.specs.Shape.{target, isStart}
 use Rattle.paths.specs.Registers.{Regs, reads, with, after}
 use Rattle.shape.specs.Shape.{shapeAt}
 use Rattle.shape.specs.declared.Shape.the-variants as S
+use Rattle.ours.specs.Landing.{JumpsTo}
 use Rattle.ours.proofs.Seen.{seen}
 use Rattle.ours.proofs.Safe.{Safe, Inside, inside, jumps-to, branches-to}
 use Rattle.ours.proofs.Standing.{Narrow, Here, after-plain}
-use Rattle.ours.proofs.Pieces.{Kept, kept-none, kept-cons, Keeps, has-form, as-seen, fine-here, inside-here, step-here, Piece}
+use Rattle.ours.proofs.Pieces.{Kept, kept-none, kept-cons, Confined, confined-none, confined-cons, Keeps, has-form, as-seen, fine-here, inside-here, no-jump, step-here, Piece}
 use Rattle.ours.proofs.Steps.{none-read, one-read, with-has, slim, made, keeps-mov, keeps-jeq, keeps-ja, exits, keeps-exit, exit-inside}
 
 -- Rr = n
@@ -49,6 +50,10 @@ module _ (b : List ℕ) (s r n : ℕ) (low : r < 10) (h : n < 2) (e : at b s ≡
   unfolding uses
   bit-fine = fine-here b s keeps-bit e refl
 
+  bit-none : {q : ℕ} → JumpsTo b s q → ⊥
+  unfolding uses
+  bit-none w = no-jump b s keeps-bit e refl w
+
   bit-safe : {Out : ℕ → Type 0} {D : Regs} → s < slots b → Safe b Out (suc s) (with r D) → Safe b Out s D
   unfolding uses reads after
   bit-safe l o = inside (step-here b s keeps-bit e refl refl l (none-read (λ x. refl)) o)
@@ -63,6 +68,10 @@ module _ (b : List ℕ) (s k t : ℕ) (few : k < 3) (q : suc s + k ≡ t) where
   unfolding target
   ahead e o = ap (λ (x : Insn). target s (x .off)) e ∙ rw o (ap pos q)
 
+  -- it goes forward
+  forward : {j : Insn} {v : ℕ} → at b s ≡ j → j .off ≡ pos k → JumpsTo b s v → (s < v) × (v ≡ t)
+  forward {v = v} e o w = let g = sym (w .to) ∙ ahead e o in let z : v ≡ t = cc in (omega arith, z)
+
   module _ (e : at b s ≡ seen (jas k)) where
     ja-fine : t < slots b → start b t ≡ true → shapeAt b s ≡ S.Fine
     unfolding uses
@@ -75,7 +84,13 @@ module _ (b : List ℕ) (s k t : ℕ) (few : k < 3) (q : suc s + k ≡ t) where
         inside (inside-here b s K e l (none-read (λ x. refl)) (λ p n.
         subst (λ (x : ℕ). Safe b Out x D) (sym (jumps-to b s Ja (has-form b s K e) refl (ahead (as-seen b s K e) refl) n)) o))
 
+    ja-forward : {v : ℕ} → JumpsTo b s v → (s < v) × (v ≡ t)
+    ja-forward w = forward (as-seen b s (keeps-ja (pos k) (omega arith)) e) refl w
+
   module _ (e : at b s ≡ seen (jeqs k)) where
+    jeq-forward : {v : ℕ} → JumpsTo b s v → (s < v) × (v ≡ t)
+    jeq-forward w = forward (as-seen b s (keeps-jeq (pos k) (omega arith)) e) refl w
+
     jeq-fine : t < slots b → start b t ≡ true → shapeAt b s ≡ S.Fine
     unfolding uses
     jeq-fine l h = fine-here b s (keeps-jeq (pos k) (omega arith)) e (lands l h)
@@ -97,7 +112,7 @@ choosing-narrow : Narrow choosing
 unfolding uses
 choosing-narrow = (slim JeqImm (omega arith), (slim MovImm (omega arith), (slim Ja (omega arith), (slim MovImm (omega arith), tt))))
 
-module _ (b : List ℕ) (xs : List Start) (s : ℕ) (h : Here b xs s choosing) (l : s + 4 < slots b) where
+module _ (b : List ℕ) (xs : List Start) (s : ℕ) (h : Here b xs s choosing) where
   second : Here b xs (suc s) (plain (movs 0 1) ∷ plain (jas 1) ∷ plain (movs 0 0) ∷ [])
   second = after-plain b xs s _ _ (choosing-narrow .0) h .1
 
@@ -107,18 +122,26 @@ module _ (b : List ℕ) (xs : List Start) (s : ℕ) (h : Here b xs s choosing) (
   fourth : Here b xs (suc (suc (suc s))) (plain (movs 0 0) ∷ [])
   fourth = after-plain b xs _ _ _ (choosing-narrow .1 .1 .0) third .1
 
-  choosing-fine : Kept b s 4
+  choosing-fine : s + 4 < slots b → Kept b s 4
   unfolding insns
-  choosing-fine =
+  choosing-fine l =
       let fifth = after-plain b xs _ _ _ (choosing-narrow .1 .1 .1 .0) fourth .1 in
       kept-cons (jeq-fine b s 2 (suc (suc (suc s))) (omega arith) (omega arith) (h .stands .0) (omega arith) (fourth .begins))
       (kept-cons (bit-fine b (suc s) 0 1 (omega arith) (omega arith) (second .stands .0))
       (kept-cons (ja-fine b (suc (suc s)) 1 (suc (suc (suc (suc s)))) (omega arith) (omega arith) (third .stands .0) (omega arith) (fifth .begins))
       (kept-cons (bit-fine b (suc (suc (suc s))) 0 0 (omega arith) (omega arith) (fourth .stands .0)) kept-none)))
 
-  choosing-inside : {Out : ℕ → Type 0} {D : Regs} → D 0 ≡ true → Safe b Out (suc (suc (suc (suc s)))) (with 0 D) → Inside b Out s D
+  choosing-confined : Confined b s 4 (s + 4)
   unfolding insns
-  choosing-inside {Out} {D} d o =
+  choosing-confined =
+      confined-cons (λ q w. let z = jeq-forward b s 2 (suc (suc (suc s))) (omega arith) (omega arith) (h .stands .0) w in (z .0, omega (arith, z .1)))
+      (confined-cons (λ q w. absurd (bit-none b (suc s) 0 1 (omega arith) (omega arith) (second .stands .0) w))
+      (confined-cons (λ q w. let z = ja-forward b (suc (suc s)) 1 (suc (suc (suc (suc s)))) (omega arith) (omega arith) (third .stands .0) w in (z .0, omega (arith, z .1)))
+      (confined-cons (λ q w. absurd (bit-none b (suc (suc (suc s))) 0 0 (omega arith) (omega arith) (fourth .stands .0) w)) confined-none)))
+
+  choosing-inside : {Out : ℕ → Type 0} {D : Regs} → s + 4 < slots b → D 0 ≡ true → Safe b Out (suc (suc (suc (suc s)))) (with 0 D) → Inside b Out s D
+  unfolding insns
+  choosing-inside {Out} {D} l d o =
       let at4 : Safe b Out (suc (suc (suc s))) D = bit-safe b (suc (suc (suc s))) 0 0 (omega arith) (omega arith) (fourth .stands .0) (omega arith) o in
       let at3 : Safe b Out (suc (suc s)) (with 0 D) = ja-safe b (suc (suc s)) 1 (suc (suc (suc (suc s)))) (omega arith) (omega arith) (third .stands .0) (omega arith) o in
       let at2 : Safe b Out (suc s) D = bit-safe b (suc s) 0 1 (omega arith) (omega arith) (second .stands .0) (omega arith) at3 in
@@ -133,6 +156,7 @@ choosing-piece {D} d =
       safe = λ b xs Out s h l o.
           let e : s + 4 ≡ suc (suc (suc (suc s))) = omega arith in
           choosing-inside b xs s h l d (rw e at o);
+      confined = λ b xs s h. choosing-confined b xs s h;
     }
 
 -- ---- it is none: where the value is 0, the program ends
@@ -148,7 +172,7 @@ leaving-narrow : Narrow leaving
 unfolding uses
 leaving-narrow = (slim JeqImm (omega arith), (slim Ja (omega arith), (slim MovImm (omega arith), (slim Exit (omega arith), (slim MovImm (omega arith), tt)))))
 
-module _ (b : List ℕ) (xs : List Start) (s : ℕ) (h : Here b xs s leaving) (l : s + 5 < slots b) where
+module _ (b : List ℕ) (xs : List Start) (s : ℕ) (h : Here b xs s leaving) where
   after-first : Here b xs (suc s) (plain (jas 2) ∷ plain (movs answer 0) ∷ plain exits ∷ plain (movs 0 1) ∷ [])
   after-first = after-plain b xs s _ _ (leaving-narrow .0) h .1
 
@@ -161,18 +185,27 @@ module _ (b : List ℕ) (xs : List Start) (s : ℕ) (h : Here b xs s leaving) (l
   after-fourth : Here b xs (suc (suc (suc (suc s)))) (plain (movs 0 1) ∷ [])
   after-fourth = after-plain b xs _ _ _ (leaving-narrow .1 .1 .1 .0) after-third .1
 
-  leaving-fine : Kept b s 5
+  leaving-fine : s + 5 < slots b → Kept b s 5
   unfolding insns uses
-  leaving-fine =
+  leaving-fine l =
       kept-cons (jeq-fine b s 1 (suc (suc s)) (omega arith) (omega arith) (h .stands .0) (omega arith) (after-second .begins))
       (kept-cons (ja-fine b (suc s) 2 (suc (suc (suc (suc s)))) (omega arith) (omega arith) (after-first .stands .0) (omega arith) (after-fourth .begins))
       (kept-cons (bit-fine b (suc (suc s)) answer 0 (omega arith) (omega arith) (after-second .stands .0))
       (kept-cons (fine-here b (suc (suc (suc s))) keeps-exit (after-third .stands .0) refl)
       (kept-cons (bit-fine b (suc (suc (suc (suc s)))) 0 1 (omega arith) (omega arith) (after-fourth .stands .0)) kept-none))))
 
-  leaving-inside : {Out : ℕ → Type 0} {D : Regs} → D 0 ≡ true → Safe b Out (suc (suc (suc (suc (suc s))))) (with 0 D) → Inside b Out s D
+  leaving-confined : Confined b s 5 (s + 5)
+  unfolding insns uses
+  leaving-confined =
+      confined-cons (λ q w. let z = jeq-forward b s 1 (suc (suc s)) (omega arith) (omega arith) (h .stands .0) w in (z .0, omega (arith, z .1)))
+      (confined-cons (λ q w. let z = ja-forward b (suc s) 2 (suc (suc (suc (suc s)))) (omega arith) (omega arith) (after-first .stands .0) w in (z .0, omega (arith, z .1)))
+      (confined-cons (λ q w. absurd (bit-none b (suc (suc s)) answer 0 (omega arith) (omega arith) (after-second .stands .0) w))
+      (confined-cons (λ q w. absurd (no-jump b (suc (suc (suc s))) keeps-exit (after-third .stands .0) refl w))
+      (confined-cons (λ q w. absurd (bit-none b (suc (suc (suc (suc s)))) 0 1 (omega arith) (omega arith) (after-fourth .stands .0) w)) confined-none))))
+
+  leaving-inside : {Out : ℕ → Type 0} {D : Regs} → s + 5 < slots b → D 0 ≡ true → Safe b Out (suc (suc (suc (suc (suc s))))) (with 0 D) → Inside b Out s D
   unfolding insns
-  leaving-inside {Out} {D} d o =
+  leaving-inside {Out} {D} l d o =
       let at5 : Safe b Out (suc (suc (suc (suc s)))) D = bit-safe b (suc (suc (suc (suc s)))) 0 1 (omega arith) (omega arith) (after-fourth .stands .0) (omega arith) o in
       let at4 : Safe b Out (suc (suc (suc s))) (with answer D) = inside (exit-inside b (suc (suc (suc s))) (after-third .stands .0) (omega arith) (with-has answer D)) in
       let at3 : Safe b Out (suc (suc s)) D = bit-safe b (suc (suc s)) answer 0 (omega arith) (omega arith) (after-second .stands .0) (omega arith) at4 in
@@ -188,4 +221,5 @@ leaving-piece {D} d =
       safe = λ b xs Out s h l o.
           let e : s + 5 ≡ suc (suc (suc (suc (suc s)))) = omega arith in
           leaving-inside b xs s h l d (rw e at o);
+      confined = λ b xs s h. leaving-confined b xs s h;
     }

@@ -14,15 +14,15 @@ use Rattle.layout.specs.Layout.{laid, Context, blocks, unitOps}
 use Rattle.layout.specs.Jumps.{starts, lands, landing, jumps}
 use Rattle.layout.specs.Code.{insns, codeBytes, relocations}
 use Rattle.shape.specs.Code.{slots}
-use Rattle.shape.specs.Shapes.{judged}
-use Rattle.shape.specs.declared.Shapes.the-variants as Ss
-use Rattle.screen.specs.Verdict.{Judged, Screened}
+use Rattle.screen.specs.Verdict.{Screened}
+use Rattle.screen.specs.Faultless.{NoFault}
 use Rattle.screen.specs.declared.Fault.the-variants.{PastEnd}
 use Rattle.screen.specs.declared.Verdict.{Verdict}
 use Rattle.screen.specs.declared.Verdict.the-variants.{Yes, Refused}
 use Rattle.screen.proofs.Before as before
-use Rattle.screen.proofs.Exact.{NoFault, says-yes}
+use Rattle.screen.proofs.Exact.{says-yes}
 use Rattle.screen.proofs.OneAnswer.{one-verdict}
+use Rattle.ours.specs.PastEnd.{OnlyPastEnd}
 use Rattle.ours.proofs.Instructions.{Cells}
 use Rattle.ours.proofs.Frames.{cells}
 use Rattle.ours.proofs.Whole.{first, unit-parts}
@@ -42,12 +42,7 @@ ours-pass c vs (k ∷ ks) l f some e land short =
     let x = subst Cells (sym f) (cells vs) in
     subst (λ (y : List Op). slotsOf y ≤ 131072 → NoFault (codeBytes (insns (starts c (k ∷ ks)) 0 y)) (relocations 0 y)) (sym (P .is)) (no-fault c x k ks (P .rest) (P .others) land) short
 
--- no block: slot 0 alone, with no fault before the paths, and the path passes the last slot: 39 at 1
-pub record OnlyPastEnd (b l : List ℕ) : Type 0 where
-  pub one : slots b ≡ 1
-  pub before : judged b l ≡ Ss.Fine
-  pub paths : Judged b (Refused (PastEnd 1))
-
+-- no block
 pub no-block : (c : Context) (l : List Op) → unitOps c [] ≡ laid l → OnlyPastEnd (codeBytes (insns (starts c []) 0 l)) (relocations 0 l)
 unfolding blocks relocations
 no-block c l e =

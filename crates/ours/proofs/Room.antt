@@ -7,12 +7,12 @@ use native.Mathlib.Omega.{arith}
 use lib.ListN.{length}
 use Rattle.wire.specs.Pick.{pick}
 use Rattle.ir.specs.Operands.{listOf}
-use Rattle.unitfile.specs.Records.{Placed}
-use Rattle.unitfile.specs.Unit.{PlacedInstruction, BasicBlock, UnitIr, parsed, firstBlock, parse}
+use Rattle.unitfile.specs.Records.{Placed, atBlock}
+use Rattle.unitfile.specs.Unit.{PlacedInstruction, BasicBlock, UnitIr, parsed, parse, Decided, refusal, whole-unit}
 use Rattle.unitfile.proofs.Blocks.{instructionRecord, terminatorRecord, onto, flat}
 use Rattle.record.specs.Terminator.{terminatorSize}
 use Rattle.unitfile.proofs.Sizes.{payloadSize, sizes, sizes-all}
-use Rattle.unitfile.proofs.Theorems.{Decided, refusal, whole-unit, decided}
+use Rattle.unitfile.proofs.Theorems.{decided}
 use Rattle.unitfile.proofs.Units.{unit-of}
 use Rattle.survey.specs.Surveyed.{blocksOf}
 use Rattle.survey.proofs.Bounds.{blocks-flat}
@@ -102,7 +102,7 @@ unit-bytes b u e = go (decided b)
     go (refusal f r p) = let q = sym p ∙ e in let z : _≡_ {A = ℕ} 0 1 = cc in absurd (omega arith)
     go (whole-unit found v r p n m) =
         let all = rw e at (blocks-flat b found r) in
-        omega (arith, sizes-all b (found .maps) (flat (u .blocks)) (firstBlock (found .blocks) (found .body)) all, unit-of b found r .short)
+        omega (arith, sizes-all b (found .maps) (flat (u .blocks)) (atBlock (found .body) (found .blocks)) all, unit-of b found r .short)
 
 -- the blocks that are reached, by whatever test
 pub kept-slots : (b : List ℕ) (u : UnitIr) (reached : ℕ → Bool) (c : Context) (l : List Op) → parse b ≡ parsed u → unitOps c (keep reached (u .blocks)) ≡ laid l → slotsOf l ≤ 131072

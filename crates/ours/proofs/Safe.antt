@@ -17,7 +17,7 @@ use Rattle.shape.specs.Fields.{uses}
 use Rattle.shape.specs.Shape.{target}
 use Rattle.paths.specs.Registers.{Regs, reads, atStart, with, called, after}
 use Rattle.paths.specs.Way.{Next, on, jump, Way, begin, step}
-use Rattle.screen.proofs.Exact.{NoPathFault}
+use Rattle.screen.specs.Faultless.{NoPathFault}
 
 -- ---- sets of registers
 

@@ -13,10 +13,10 @@ use mir.Syntax.{w16, w32}
 use mir.Val.{SFits}
 use Rattle.wire.specs.Le.{bytesOf as lowest, unsignedBytes, signedBytes}
 use Rattle.wire.proofs.Le.{signed-inside, signed-of-bytes}
-use Rattle.insn.specs.Layout.{bytesOf, insnAt, decoded}
+use Rattle.insn.specs.Layout.{Fields, bytesOf, insnAt, decoded}
 use Rattle.insn.specs.declared.Insn.{Insn}
 use Rattle.insn.proofs.Pieces.{bytes-length}
-use Rattle.insn.proofs.RoundTrip.{Fields, decode-encode}
+use Rattle.insn.proofs.RoundTrip.{decode-encode}
 use Rattle.shape.specs.Code.{slots, at, wide}
 use Rattle.shape.specs.Shapes.{lengthOk}
 use Rattle.layout.specs.Code.{codeBytes}

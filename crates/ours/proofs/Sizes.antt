@@ -8,6 +8,7 @@ use lib.Dec.{eqb}
 use lib.IntN.{ℤ, pos}
 use lib.ListN.{length}
 use Rattle.wire.specs.Pick.{pick, either}
+use Rattle.wire.specs.Range.{fits16, fits32}
 use Rattle.ir.specs.Operands.{listOf}
 use Rattle.ir.specs.declared.BinaryOp.{BinaryOp}
 use Rattle.ir.specs.declared.Operand.{Operand}
@@ -27,7 +28,7 @@ use Rattle.frame.specs.Cell.{Frame}
 use Rattle.frame.specs.declared.Cell.{Cell}
 use Rattle.frame.specs.declared.Cell.the-variants.{At, Missing}
 use Rattle.lower.specs.Op.{Op, ja, jne, Lowered, becomes, refused, insn, slotsOf, _▸_}
-use Rattle.lower.specs.Operand.{fits16, fits32, constant, move, add, call, onCell, load, addr, next, keep, mapAddress}
+use Rattle.lower.specs.Operand.{constant, move, add, call, onCell, load, addr, next, keep, mapAddress}
 use Rattle.lower.specs.Instruction.{onFirst, onTwo, onThree, onNone, sized, mem, operate, fromContext, helperCall, nullCheck, opcode, instruction}
 use Rattle.lower.specs.Terminator.{terminator}
 use Rattle.lower.specs.declared.Reason.{Reason}

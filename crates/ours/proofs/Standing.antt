@@ -1,7 +1,7 @@
 -- Operations that stand in the code: where their instructions start, and which relocations they make.
 use mathlib.Core.Path.{_≡_, refl, sym, ap, _∙_, subst}
 use mathlib.Core.Bool.{Bool, true, false}
-use mathlib.Core.List.{List, [], _∷_, _++_}
+use mathlib.Core.List.{List, [], _∷_, _++_, append-assoc}
 use Prim.Native.Nat.{ℕ, suc, _+_, _*_, _≤_}
 use native.Mathlib.Nat.{add-zero}
 use native.Mathlib.Omega.{arith}
@@ -22,6 +22,7 @@ use Rattle.shape.specs.Relocations.{wideFrom, differs}
 use Rattle.shape.specs.declared.Relocations.the-variants.{Exact}
 use Rattle.shape.proofs.Starts.{start-narrow, start-second, start-wide}
 use Rattle.shape.proofs.Rules.{wide-form}
+use Rattle.ours.specs.Landing.{StandAt}
 use Rattle.ours.proofs.Seen.{seen, seen-code, Stands, stands-front, stands-back, wide-by}
 
 -- the plain instructions are none of two slots
@@ -38,6 +39,13 @@ narrow-append (plain i ∷ a) c h k = (h .0, narrow-append a c (h .1) k)
 narrow-append (map m ∷ a) c h k = narrow-append a c h k
 narrow-append (ja id ∷ a) c h k = narrow-append a c h k
 narrow-append (jne id ∷ a) c h k = narrow-append a c h k
+
+narrow-front : (a c : List Op) → Narrow (a ++ c) → Narrow a
+narrow-front [] c h = tt
+narrow-front (plain i ∷ a) c h = (h .0, narrow-front a c (h .1))
+narrow-front (map m ∷ a) c h = narrow-front a c h
+narrow-front (ja id ∷ a) c h = narrow-front a c h
+narrow-front (jne id ∷ a) c h = narrow-front a c h
 
 -- the operations l stand in the code b from the start s on
 pub record Here (b : List ℕ) (xs : List Start) (s : ℕ) (l : List Op) : Type 0 where
@@ -121,6 +129,12 @@ module _ (b : List ℕ) (xs : List Start) where
         stands = rw insns-count at (stands-back b s (insns xs s a) (insns xs (s + slotsOf a) c) (rw insns-append at (h .stands)));
         begins = at-end s a n (front s a c h);
       }
+
+  pub here-at : {s p : ℕ} {l m : List Op} → Narrow l → Here b xs s l → StandAt s l p m → Here b xs p m
+  here-at {s} {p} {l} {m} n h t =
+      let e : l ≡ t .before ++ (m ++ t .after) = t .is ∙ append-assoc (t .before) m (t .after) in
+      let w = back s (t .before) (m ++ t .after) (narrow-front (t .before) (m ++ t .after) (subst Narrow e n)) (subst (Here b xs s) e h) in
+      front p m (t .after) (subst (λ (x : ℕ). Here b xs x (m ++ t .after)) (t .slot) w)
 
   -- ---- 37
 

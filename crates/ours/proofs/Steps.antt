@@ -10,19 +10,20 @@ use lib.Dec.{eqb, leb}
 use lib.IntN.{ℤ, pos}
 use lib.Signed.{mag}
 use Rattle.wire.specs.Pick.{both, either, implies, isZero}
+use Rattle.wire.specs.Range.{fits32}
 use Rattle.ir.specs.declared.BinaryOp.{BinaryOp}
 use Rattle.insn.specs.Rfc.{width}
 use Rattle.insn.specs.Form.{opcodeOf, formOf}
+use Rattle.insn.specs.Helper.{helperOf, isHelper, arguments}
 use Rattle.insn.specs.declared.Insn.{Insn}
 use Rattle.insn.specs.declared.form.Size.{Size}
 use Rattle.insn.specs.declared.form.Form.{Form}
 use Rattle.insn.specs.declared.form.Form.the-variants.{Ldx, Stx, AluImm, AluReg, MovImm, MovReg, Ja, JeqImm, JneImm, Call, Exit}
 use Rattle.insn.proofs.Forms.{form-opcode}
-use Rattle.lower.specs.Operand.{fits32}
 use Rattle.shape.specs.Code.{slots, at}
 use Rattle.shape.specs.Fields.{uses}
-use Rattle.shape.specs.Shape.{isHelper, known, registersOk, unusedZero, inFrame, accessOk}
-use Rattle.paths.specs.Registers.{Regs, arguments, argument, reads, with}
+use Rattle.shape.specs.Shape.{known, registersOk, unusedZero, inFrame, accessOk}
+use Rattle.paths.specs.Registers.{Regs, argument, reads, with}
 use Rattle.ours.proofs.Seen.{seen, seen-is, seen-but}
 use Rattle.ours.proofs.Safe.{Under, Ready, Inside, stops}
 use Rattle.ours.proofs.Pieces.{Keeps, has-form, inside-here}
@@ -68,10 +69,10 @@ upto (suc n) D u r h l = go (ℕ-discrete r (suc n)) (λ m. upto n D (u .1) r h 
     go (yes e) k = rw e (u .0)
     go (no e) k = k (omega arith)
 
--- a helper of the list that takes n arguments
+-- a helper of the table that takes n arguments
 pub record Takes (h n : ℕ) : Type 0 where
-  pub helper : isHelper (pos h) ≡ true
-  pub takes : arguments h ≡ n
+  pub helper : isHelper (helperOf (pos h)) ≡ true
+  pub takes : arguments (helperOf (pos h)) ≡ n
   pub small : h < 2 ^ 31
 
 both-true : (x y : Bool) → both x y ≡ true → (x ≡ true) × (y ≡ true)
@@ -83,8 +84,8 @@ unfolding reads argument
 call-ready {j} {h} {n} {D} m t u =
     record {
       at = λ r e.
-          let p = both-true (leb 1 r) (leb r (arguments h)) (rw m at e) in
-          upto n D u r (leb-true 1 r (p .0)) (omega (arith, leb-true r (arguments h) (p .1), t .takes));
+          let p = both-true (leb 1 r) (leb r n) (rw (m, t .takes) at e) in
+          upto n D u r (leb-true 1 r (p .0)) (leb-true r n (p .1));
     }
 
 -- ---- narrow forms

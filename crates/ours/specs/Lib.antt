@@ -1,1 +1,2 @@
 pub mod Landing
+pub mod PastEnd

@@ -13,22 +13,10 @@ use Rattle.unitfile.specs.Unit.{PlacedInstruction, BasicBlock}
 use Rattle.survey.specs.Collected.{all, collected}
 use Rattle.survey.proofs.Among.{result-among, operand-among, return-among, condition-among, has-cell}
 use Rattle.survey.proofs.Sorted.{all-fits}
-use Rattle.size.proofs.Cells.{HasCell, Celled}
+use Rattle.size.specs.Celled.{HasCell, Celled}
+use Rattle.passes.specs.Rows.{RowCelled, EndCelled, BlockCelled}
 
--- those of instructions
-pub record RowCelled (f : Frame) (is : List PlacedInstruction) : Type 0 where
-  pub each : (p : PlacedInstruction) → List·Memᴰ p is → Celled f (p .instruction .result) (listOf (p .instruction .operands))
-
--- that of a terminator
-pub record EndCelled (f : Frame) (t : Terminator) : Type 0 where
-  pub returned : (v : ℕ) → t ≡ T.Return (O.Var v) → HasCell f v
-  pub tested : (v to other : ℕ) → t ≡ T.Branch (O.Var v) to other → HasCell f v
-
--- those of a block
-pub record BlockCelled (f : Frame) (k : BasicBlock) : Type 0 where
-  pub row : RowCelled f (k .instructions)
-  pub end : EndCelled f (k .terminator)
-
+-- those of blocks
 pub record BlocksCelled (f : Frame) (ks : List BasicBlock) : Type 0 where
   pub each : (k : BasicBlock) → List·Memᴰ k ks → BlockCelled f k
 

@@ -7,14 +7,15 @@ use native.Mathlib.Omega.{arith}
 use lib.ListN.{length, getD}
 use lib.Seq.{getD-take}
 use Rattle.ir.specs.declared.Terminator.{Terminator}
-use Rattle.peek.specs.Terminator.{terminatorIn}
+use Rattle.recordparts.specs.Terminator.{terminatorIn}
 use Rattle.unitfile.specs.Unit.{BasicBlock, parse, readUnit}
 use Rattle.unitfile.specs.declared.Found.{Found}
 use Rattle.unitfile.specs.declared.ReadUnit.the-variants as U
 use Rattle.survey.specs.Surveyed.{endings, blocksOf}
 use Rattle.survey.proofs.Bounds.{blocks-count}
 use Rattle.survey.proofs.Flat.{endings-count}
-use Rattle.survey.proofs.Standing.{Standing, standing, standing-head, standing-tail}
+use Rattle.survey.specs.Standing.{Standing}
+use Rattle.survey.proofs.Standing.{standing, standing-head, standing-tail}
 use Rattle.passes.specs.Notes.{closingsAt, EndsAt}
 
 unfoldable pub closings : List BasicBlock → List Terminator

@@ -11,7 +11,7 @@ use mir.Syntax.{w32}
 use Rattle.wire.specs.Pick.{pick, both}
 use Rattle.wire.specs.Le.{unsignedAt}
 use Rattle.record.specs.Frame.{lengthAt, kindAt}
-use Rattle.record.specs.Payload.{headAt, headOk, payloadAt}
+use Rattle.record.specs.Payload.{headIn, headOk, payloadAt}
 use Rattle.record.specs.Record.{kindDue, readRecord}
 use Rattle.record.specs.declared.Due.the-variants as Du
 use Rattle.record.specs.declared.Head.{Head}
@@ -33,16 +33,16 @@ use Rattle.survey.specs.Surveyed.{blocksOf}
 use Rattle.survey.proofs.Bounds.{blocks-count}
 
 module _ (b : List ℕ) where
-  picked-head : (t : Bool) (h : Head) → pick t (P.Is (R.Head (headAt b 4))) P.Broken ≡ P.Is (R.Head h) → h .blocks ≡ unsignedAt w32 b 8
-  unfolding headAt
-  picked-head true h e = let z : headAt b 4 ≡ h = cc in ap (λ (x : Head). x .blocks) (sym z)
+  picked-head : (t : Bool) (h : Head) → pick t (P.Is (R.Head (headIn b 4))) P.Broken ≡ P.Is (R.Head h) → h .blocks ≡ unsignedAt w32 b 8
+  unfolding headIn
+  picked-head true h e = let z : headIn b 4 ≡ h = cc in ap (λ (x : Head). x .blocks) (sym z)
   picked-head false h e = let z : _≡_ {A = ℕ} 0 1 = cc in absurd (omega arith)
 
   taken-head : (h : Head) (next : ℕ) → Taken b 0 Du.Head 0 (R.Head h) next → h .blocks ≡ unsignedAt w32 b 8
   unfolding kindDue payloadAt
   taken-head h next t =
       let kind : kindAt b 0 ≡ 1 = eqb-true _ 1 (t .kind) in
-      picked-head (both (eqb (lengthAt b 0) 8) (headOk (headAt b 4))) h (rw kind at (t .payload))
+      picked-head (both (eqb (lengthAt b 0) 8) (headOk (headIn b 4))) h (rw kind at (t .payload))
 
   head-by : (x : Read) → readRecord b 0 Du.Head 0 ≡ x → (h : Head) (first : ℕ) → headOf x ≡ H.Is h first → h .blocks ≡ unsignedAt w32 b 8
   unfolding headOf

@@ -17,7 +17,8 @@ use Rattle.unitfile.proofs.Units.{unit-of}
 use Rattle.survey.specs.Surveyed.{endings, blocksOf}
 use Rattle.survey.proofs.Bounds.{blocks-count}
 use Rattle.survey.proofs.Flat.{endings-count}
-use Rattle.survey.proofs.Standing.{BlockAt, Standing, standing, standing-head, standing-tail}
+use Rattle.survey.specs.Standing.{BlockAt, Standing}
+use Rattle.survey.proofs.Standing.{standing, standing-head, standing-tail}
 use Rattle.lower.specs.Op.{slotsOf, insn}
 use Rattle.lower.specs.Operand.{move}
 use Rattle.lower.specs.declared.Reason.{Reason}
@@ -28,8 +29,9 @@ use Rattle.passes.specs.Notes.{EndsAt}
 use Rattle.passes.specs.Tables.{sizeOf, Measured}
 use Rattle.passes.specs.declared.Size.{Size}
 use Rattle.passes.specs.declared.Size.the-variants as S
+use Rattle.passes.specs.Rows.{BlockIn, SomeBlock, BlockSized, BlockTakes}
 use Rattle.passes.proofs.Celled.{BlocksCelled, block-celled, blocks-celled}
-use Rattle.passes.proofs.Sizing.{within, plus, plus-laid, plus-refused, plus-nothing, BlockIn, SomeBlock, BlockSized, BlockTakes}
+use Rattle.passes.proofs.Sizing.{within, plus, plus-laid, plus-refused, plus-nothing}
 
 -- ---- the first of the blocks that are kept, and the others
 

@@ -14,13 +14,13 @@ use Rattle.ir.specs.declared.Operand.{Operand}
 use Rattle.ir.specs.declared.Operand.the-variants.{Var, Immediate}
 use Rattle.ir.specs.declared.Terminator.{Terminator}
 use Rattle.ir.specs.declared.Terminator.the-variants.{Return, Jump, Branch}
-use Rattle.peek.specs.Terminator.{terminatorIn}
+use Rattle.recordparts.specs.Terminator.{terminatorIn}
 use Rattle.unitfile.specs.Unit.{BasicBlock}
 use Rattle.frame.specs.Hint.{indexBy}
 use Rattle.frame.proofs.Hints.{index-by}
 use Rattle.flow.specs.Node.{among}
 use Rattle.survey.specs.Conditions.{isVar, branchesOn, isCondition}
-use Rattle.survey.proofs.Sorted.{Fits}
+use Rattle.survey.specs.Collected.{Fits}
 use Rattle.passes.specs.Inner.{conditionFrom, markAt}
 use Rattle.passes.specs.Notes.{marksOn, marksAfter, countOf, firstTarget, secondTarget, countsOf, pairsOf, closingsAt, marksThrough, countsThrough, pairsThrough, Notes, Noted}
 use Rattle.passes.proofs.Marks.{either-false, both-false, mark-at, mark-more}

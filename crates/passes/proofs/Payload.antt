@@ -1,12 +1,12 @@
 -- A record's payload as a part of the unit: what stands in it is what stands in the unit after the record's place.
 use mathlib.Core.Path.{_≡_, refl, sym, ap, _∙_}
-use mathlib.Core.Bool.{Bool, true, false}
+use mathlib.Core.Bool.{Bool, true, false, true≢false}
 use mathlib.Core.List.{List}
 use Prim.Native.Nat.{ℕ, zero, suc, _+_, _-_}
 use native.Mathlib.Nat.{add-zero}
 use native.Mathlib.Omega.{arith}
 use lib.Dec.{eqb}
-use lib.ListN.{length, take, drop, length-drop}
+use lib.ListN.{length, take, drop, getD, length-drop}
 use lib.Seq.{take-all}
 use mir.Syntax.{w32, w64}
 use Rattle.wire.specs.Le.{byteAt, unsignedAt}
@@ -15,13 +15,13 @@ use Rattle.ir.specs.Operands.{listOf}
 use Rattle.ir.specs.declared.Operand.{Operand}
 use Rattle.ir.specs.declared.Instruction.{Instruction}
 use Rattle.ir.specs.declared.Opcode.{Opcode}
-use Rattle.opcode.specs.Opcode.{opcodeIn}
+use Rattle.ir.specs.declared.Opcode.the-variants as C
+use Rattle.opcode.specs.Opcode.{opcodes, opcodeIn}
 use Rattle.opcode.specs.declared.Fields.{Fields}
 use Rattle.operand.specs.Operand.{operandIn, operandsIn}
-use Rattle.record.specs.Instruction.{fieldsAt, countAt}
-use Rattle.peek.specs.Terminator.{terminatorIn}
-use Rattle.opening.proofs.Choice.{pick-ind}
-use Rattle.peek.proofs.Peeking.{InstructionAt}
+use Rattle.record.specs.Instruction.{fieldsIn, countIn}
+use Rattle.recordparts.specs.Terminator.{terminatorIn}
+use Rattle.recordparts.specs.Stands.{InstructionAt}
 use Rattle.frame.specs.Cell.{Frame}
 use Rattle.frame.specs.Hint.{frameBy}
 use Rattle.lower.specs.Instruction.{opcode, instruction, scratchAfter}
@@ -53,8 +53,8 @@ module _ (b : List ℕ) (k : ℕ) where
       let z : k + (i + 9) ≡ k + i + 9 = omega arith in
       rw (operand-drop i, operands-drop (i + 9) n, z)
 
-  fields-drop : fieldsAt (drop k b) 0 ≡ fieldsAt b k
-  unfolding fieldsAt
+  fields-drop : fieldsIn (drop k b) 0 ≡ fieldsIn b k
+  unfolding fieldsIn
   fields-drop = rw (byte-drop b k 4, byte-drop b k 5, signed-drop b k 8 w32, unsigned-drop b k 12 w32)
 
   pub terminator-drop : terminatorIn (drop k b) 0 ≡ terminatorIn b k
@@ -70,11 +70,11 @@ module _ (b : List ℕ) (place : ℕ) (i : Instruction) (e : InstructionAt b pla
   pub result-is : unsignedAt w32 p 0 ≡ i .result
   result-is = unsigned-first w32 b (place + 4) ∙ sym (e .result)
 
-  opcode-is : opcodeIn (fieldsAt p 0) ≡ i .opcode
+  opcode-is : opcodeIn (fieldsIn p 0) ≡ i .opcode
   opcode-is = ap opcodeIn (fields-drop b (place + 4)) ∙ sym (e .opcode)
 
   pub operands-are : operandsOf p ≡ listOf (i .operands)
-  unfolding operandsOf countAt
+  unfolding operandsOf countIn
   operands-are =
       let z : place + 4 + 16 ≡ place + 20 = omega arith in
       operands-drop b (place + 4) 16 _ ∙ rw (byte-drop b (place + 4) 6, z) (sym (e .list))
@@ -98,26 +98,31 @@ module _ (f : Frame) (j : ℕ) (t u : Bool) (result : ℕ) (os : List Operand) w
   abbrev Same : Opcode → Type 0
   Same o = opcode f j t result o os ≡ opcode f j u result o os
 
+  same-at : (x : Fields) (n : ℕ) → eqb n 7 ≡ false → Same (getD (opcodes x) n C.LoadKey)
+  unfolding opcode
+  same-at x zero other = refl
+  same-at x (suc zero) other = refl
+  same-at x (suc (suc zero)) other = refl
+  same-at x (suc (suc (suc zero))) other = refl
+  same-at x (suc (suc (suc (suc zero)))) other = refl
+  same-at x (suc (suc (suc (suc (suc zero))))) other = refl
+  same-at x (suc (suc (suc (suc (suc (suc zero)))))) other = refl
+  same-at x (suc (suc (suc (suc (suc (suc (suc zero))))))) other = absurd (true≢false other)
+  same-at x (suc (suc (suc (suc (suc (suc (suc (suc zero)))))))) other = refl
+  same-at x (suc (suc (suc (suc (suc (suc (suc (suc (suc zero))))))))) other = refl
+  same-at x (suc (suc (suc (suc (suc (suc (suc (suc (suc (suc zero)))))))))) other = refl
+  same-at x (suc (suc (suc (suc (suc (suc (suc (suc (suc (suc (suc zero))))))))))) other = refl
+  same-at x (suc (suc (suc (suc (suc (suc (suc (suc (suc (suc (suc (suc zero)))))))))))) other = refl
+  same-at x (suc (suc (suc (suc (suc (suc (suc (suc (suc (suc (suc (suc (suc n))))))))))))) other = refl
+
   pub same-opcode : (x : Fields) → eqb (x .code) 7 ≡ false → Same (opcodeIn x)
-  unfolding opcodeIn opcode
-  same-opcode x other =
-      pick-ind Same (eqb (x .code) 1) _ _ (λ _. refl)
-      (λ _. pick-ind Same (eqb (x .code) 2) _ _ (λ _. refl)
-      (λ _. pick-ind Same (eqb (x .code) 3) _ _ (λ _. refl)
-      (λ _. pick-ind Same (eqb (x .code) 4) _ _ (λ _. refl)
-      (λ _. pick-ind Same (eqb (x .code) 5) _ _ (λ _. refl)
-      (λ _. pick-ind Same (eqb (x .code) 6) _ _ (λ _. refl)
-      (λ _. pick-ind Same (eqb (x .code) 7) _ _ (λ e. let z : _≡_ {A = ℕ} 0 1 = cc in absurd (omega arith))
-      (λ _. pick-ind Same (eqb (x .code) 8) _ _ (λ _. refl)
-      (λ _. pick-ind Same (eqb (x .code) 9) _ _ (λ _. refl)
-      (λ _. pick-ind Same (eqb (x .code) 10) _ _ (λ _. refl)
-      (λ _. pick-ind Same (eqb (x .code) 11) _ _ (λ _. refl)
-      (λ _. pick-ind Same (eqb (x .code) 12) _ _ (λ _. refl) (λ _. refl))))))))))))
+  unfolding opcodeIn
+  same-opcode x other = same-at x (x .code) other
 
 asked-by : (f : Frame) (j : ℕ) (t : Bool) (p : List ℕ) (s : Bool) → eqb (byteAt p 4) 7 ≡ s → instructionIn f j (pick s t false) p ≡ instructionIn f j t p
-unfolding instructionIn fieldsAt
+unfolding instructionIn fieldsIn
 asked-by f j t p true e = refl
-asked-by f j t p false e = same-opcode f j false t _ _ (fieldsAt p 0) e
+asked-by f j t p false e = same-opcode f j false t _ _ (fieldsIn p 0) e
 
 pub asked-is : (vs hs ms : List ℕ) (j : ℕ) (p : List ℕ) {t : Bool} → t ≡ conditionIn (contextOf vs hs ms) p → instructionIn (frameBy vs hs) j t p ≡ instructionBy (contextOf vs hs ms) j p
 unfolding conditionIn instructionBy

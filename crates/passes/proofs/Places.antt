@@ -13,7 +13,7 @@ use Rattle.ir.specs.Operands.{listOf}
 use Rattle.ir.specs.declared.Instruction.{Instruction}
 use Rattle.ir.specs.declared.Terminator.{Terminator}
 use Rattle.record.specs.Frame.{nextAt}
-use Rattle.peek.proofs.Peeking.{InstructionAt}
+use Rattle.recordparts.specs.Stands.{InstructionAt}
 use Rattle.unitfile.specs.Unit.{PlacedInstruction, BasicBlock}
 use Rattle.lower.specs.Op.{Op, Lowered, becomes, refused}
 use Rattle.lower.specs.Instruction.{instruction, scratchAfter}
@@ -21,7 +21,7 @@ use Rattle.lower.specs.Terminator.{terminator}
 use Rattle.layout.specs.Layout.{Context, at, ops, instructions, scratchThrough, block}
 use Rattle.layout.specs.Inner.{blockBy, scratchBy}
 use Rattle.layout.proofs.Laid.{Fine, both-fine}
-use Rattle.survey.proofs.Standing.{Chain, BlockAt}
+use Rattle.survey.specs.Standing.{Chain, BlockAt}
 use Rattle.passes.specs.Places.{payloadAt, instructionBy, placesIn, places, ringBy, opsAt, ringAt, endOps, blockOps, blockRing}
 use Rattle.passes.proofs.Payload.{result-is, instruction-is, scratch-is}
 use Rattle.passes.proofs.Ring.{ring-after}

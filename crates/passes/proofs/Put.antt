@@ -14,6 +14,7 @@ use mir.Syntax.{w16, w64}
 use mir.Val.{SFits}
 use Rattle.wire.specs.Number.{bytesBefore}
 use Rattle.wire.proofs.Store.{store-in}
+use Rattle.wire.specs.Range.{fits16}
 use Rattle.insn.specs.Form.{opcodeOf}
 use Rattle.insn.specs.Layout.{bytesOf}
 use Rattle.insn.specs.declared.Insn.{Insn}
@@ -21,7 +22,6 @@ use Rattle.insn.specs.declared.form.Form.the-variants.{Ja, JneImm}
 use Rattle.insn.proofs.Pieces.{bytes-length}
 use Rattle.opcode.proofs.Opcodes.{both-true}
 use Rattle.lower.specs.Op.{Op, plain, ja, jne, slotsOf, Lowered, becomes, refused}
-use Rattle.lower.specs.Operand.{fits16}
 use Rattle.lower.specs.Step.{mapOps}
 use Rattle.lower.specs.Held.{mapIn, held}
 use Rattle.lower.specs.declared.MapUse.the-variants as U
@@ -89,7 +89,7 @@ pub record Told (xs : List Start) (s : ℕ) (l : List Op) (e : Emitted) : Type 0
 
 module _ (xs : List Start) (s place : ℕ) where
   told-tidy : {x : Lowered} → Tidy 11 x → Told xs s (ops (at place x)) (held x)
-  unfolding held mapIn at ops mapOps slotsOf mapsOf relocsBy relocationsBy relocations insnsIn insns wideInsn zeroInsn
+  unfolding held mapIn at ops mapOps slotsOf mapsOf relocsBy relocationsBy relocations insnsIn insns
   told-tidy (Tidy.some U.Nothing is h) = record {
     slots = refl;
     maps = rw (plain-map is) (sym (plain-maps is));

@@ -12,6 +12,7 @@ use lib.ListN.{length}
 use mir.Syntax.{w32}
 use Rattle.wire.specs.Pick.{pick}
 use Rattle.wire.specs.Le.{byteAt, unsignedAt}
+use Rattle.wire.specs.Range.{fits32}
 use Rattle.ir.specs.Operands.{listOf}
 use Rattle.ir.specs.declared.Instruction.{Instruction}
 use Rattle.ir.specs.declared.Operand.{Operand}
@@ -20,14 +21,14 @@ use Rattle.ir.specs.declared.Terminator.{Terminator}
 use Rattle.ir.specs.declared.Terminator.the-variants as T
 use Rattle.operand.specs.Operand.{operandIn}
 use Rattle.record.specs.Frame.{nextAt}
-use Rattle.record.specs.Instruction.{fieldsAt}
+use Rattle.record.specs.Instruction.{fieldsIn}
 use Rattle.unitfile.specs.Unit.{PlacedInstruction, BasicBlock}
-use Rattle.peek.specs.Terminator.{terminatorIn}
-use Rattle.peek.proofs.Peeking.{InstructionAt, TerminatorAt}
+use Rattle.recordparts.specs.Terminator.{terminatorIn}
+use Rattle.recordparts.specs.Stands.{InstructionAt, TerminatorAt}
 use Rattle.insn.specs.declared.form.Form.the-variants.{MovImm, Exit}
 use Rattle.frame.specs.Cell.{Frame}
 use Rattle.lower.specs.Op.{Lowered, becomes, refused, ja, jne, slotsOf, insn, _▸_}
-use Rattle.lower.specs.Operand.{fits32, constant, onCell, load}
+use Rattle.lower.specs.Operand.{constant, onCell, load}
 use Rattle.lower.specs.Instruction.{instruction, scratchAfter}
 use Rattle.lower.specs.Payload.{instructionIn, operandsOf}
 use Rattle.lower.specs.Terminator.{terminator}
@@ -37,18 +38,21 @@ use Rattle.lower.specs.declared.Reason.{Reason}
 use Rattle.lower.specs.declared.Reason.the-variants as Re
 use Rattle.lower.specs.declared.MapUse.the-variants as M
 use Rattle.size.specs.Size.{everyCell, sizeIn}
-use Rattle.size.proofs.Cells.{Celled, same-size-in}
+use Rattle.size.specs.Celled.{Celled}
+use Rattle.size.proofs.Cells.{same-size-in}
 use Rattle.layout.specs.Layout.{Laid, laid, refusedAt, Context, at, _then_, instructions, block}
 use Rattle.layout.specs.Inner.{blockBy, mapsOf}
 use Rattle.layout.proofs.Laid.{slots-append}
 use Rattle.layout.proofs.Tidy.{Tidy}
-use Rattle.survey.proofs.Standing.{Chain, First, chain-within, chain-empty, chain-first, chain-same}
+use Rattle.survey.specs.Standing.{Chain}
+use Rattle.survey.proofs.Standing.{First, chain-within, chain-empty, chain-first, chain-same}
 use Rattle.passes.specs.Inner.{conditionIn}
 use Rattle.passes.specs.Places.{payloadAt}
+use Rattle.passes.specs.Rows.{RowCelled, EndCelled, BlockCelled, Row, RowSized, BlockIn, SomeBlock, BlockSized, BlockTakes}
 use Rattle.passes.specs.Tables.{sizeOf, sizeBy, sizeOn, relocsBy, loadSize, Sized}
 use Rattle.passes.specs.declared.Size.{Size}
 use Rattle.passes.specs.declared.Size.the-variants as S
-use Rattle.passes.proofs.Celled.{RowCelled, EndCelled, BlockCelled, first-celled, others-celled}
+use Rattle.passes.proofs.Celled.{first-celled, others-celled}
 use Rattle.passes.proofs.Payload.{terminator-drop, result-is, operands-are, instruction-is, same-opcode, tidy-payload}
 use Rattle.passes.proofs.Plain.{plain-slots, plain-maps, plain-map, maps-append}
 
@@ -79,12 +83,12 @@ sized-held place {x} t q = subst (Sized (at place x)) (sym q) (sized-tidy place 
 
 -- only a NullCheck asks whether its result is a branch condition
 asked : (c : Context) (p : List ℕ) → sizeIn (conditionIn c p) p ≡ sizeIn (c .condition (unsignedAt w32 p 0)) p
-unfolding conditionIn sizeIn instructionIn fieldsAt
+unfolding conditionIn sizeIn instructionIn fieldsIn
 asked c p = go (eqb (byteAt p 4) 7) refl
   where
     go : (t : Bool) → eqb (byteAt p 4) 7 ≡ t → sizeIn (pick t (c .condition (unsignedAt w32 p 0)) false) p ≡ sizeIn (c .condition (unsignedAt w32 p 0)) p
     go true e = refl
-    go false e = ap held (same-opcode everyCell 0 false (c .condition (unsignedAt w32 p 0)) _ _ (fieldsAt p 0) e)
+    go false e = ap held (same-opcode everyCell 0 false (c .condition (unsignedAt w32 p 0)) _ _ (fieldsIn p 0) e)
 
 module _ (c : Context) (b : List ℕ) (place : ℕ) (i : Instruction) (here : InstructionAt b place i) (cells : Celled (c .frame) (i .result) (listOf (i .operands))) where
   abbrev p : List ℕ
@@ -216,18 +220,6 @@ plus-zero (refusedAt place r) = refl
 
 -- ---- a block's instructions
 
--- the instructions that stand from a byte to the byte end; each of their variables has a cell
-pub record Row (f : Frame) (b : List ℕ) (end at : ℕ) : Type 0 where
-  pub instructions : List PlacedInstruction
-  pub chain : Chain b end at instructions
-  pub cells : RowCelled f instructions
-
--- what they take, whatever the scratch position: 13 slots and one relocation at most for each, which has 4 bytes at least
-pub record RowSized (c : Context) (b : List ℕ) (end first : ℕ) (r : Size) : Type 0 where
-  pub row : Row (c .frame) b end first
-  pub size : (j : ℕ) → r ≡ sizeOf (instructions c j (row .instructions))
-  pub few : (n m : ℕ) → r ≡ S.Slots n m → (4 * n + 13 * first ≤ 13 * end) × (4 * m + first ≤ end)
-
 -- with s slots and m relocations so far, these lead to the size r
 pub record Leads (c : Context) (is : List PlacedInstruction) (s m : ℕ) (r : Size) : Type 0 where
   pub ring : ℕ
@@ -319,27 +311,6 @@ module _ {c : Context} {b : List ℕ} {end first place s m : ℕ} (n : Sizing c 
       }
 
 -- ---- a block
-
--- the block whose instructions stand from a byte to the byte end, where its terminator stands; each of its variables has a cell
-pub record BlockIn (f : Frame) (b : List ℕ) (first end : ℕ) (k : BasicBlock) : Type 0 where
-  pub ending : k .ending ≡ end
-  pub chain : Chain b end first (k .instructions)
-  pub ends : TerminatorAt b end (k .terminator)
-  pub cells : BlockCelled f k
-
--- there is one
-pub record SomeBlock (f : Frame) (b : List ℕ) (first end : ℕ) : Type 0 where
-  pub block : BasicBlock
-  pub stands : BlockIn f b first end block
-
--- what it takes by whether it is emitted, whatever the scratch position
-pub record BlockSized (c : Context) (t : Bool) (first end : ℕ) (k : BasicBlock) (r : Size) : Type 0 where
-  pub size : (j : ℕ) → r ≡ sizeOf (blockBy c t j k)
-  pub few : (n m : ℕ) → r ≡ S.Slots n m → (4 * n + 13 * first ≤ 13 * end + 52) × (4 * m + first ≤ end + 4)
-
--- of whichever block stands there
-pub record BlockTakes (c : Context) (b : List ℕ) (t : Bool) (first end : ℕ) (r : Size) : Type 0 where
-  pub each : (k : BasicBlock) → BlockIn (c .frame) b first end k → BlockSized c t first end k r
 
 pub some-row : {f : Frame} {b : List ℕ} {first end : ℕ} → SomeBlock f b first end → Row f b end first
 some-row w = record { instructions = w .block .instructions; chain = w .stands .chain; cells = w .stands .cells .row }

@@ -9,6 +9,7 @@ use native.Mathlib.Omega.{arith}
 use lib.IntN.{ℤ, pos}
 use lib.ListN.{length, getD}
 use Rattle.wire.specs.Pick.{pick}
+use Rattle.wire.specs.Range.{fits16, fits32}
 use Rattle.ir.specs.declared.Operand.{Operand}
 use Rattle.ir.specs.declared.Operand.the-variants.{Var, Immediate}
 use Rattle.ir.specs.declared.Terminator.{Terminator}
@@ -26,7 +27,7 @@ use Rattle.flow.proofs.Numbers.{Here, number-law}
 use Rattle.survey.specs.Surveyed.{ids}
 use Rattle.survey.proofs.Flat.{ids-count}
 use Rattle.lower.specs.Op.{plain, ja, jne, Lowered, becomes, refused, insn, _▸_}
-use Rattle.lower.specs.Operand.{fits16, fits32, constant, onCell, load}
+use Rattle.lower.specs.Operand.{constant, onCell, load}
 use Rattle.lower.specs.Terminator.{terminator}
 use Rattle.lower.specs.declared.Reason.{Reason}
 use Rattle.layout.specs.Emitted.{nodes}

@@ -15,12 +15,13 @@ use Rattle.record.specs.Frame.{nextAt}
 use Rattle.unitfile.specs.Unit.{BasicBlock, parse, readUnit}
 use Rattle.unitfile.specs.declared.Found.{Found}
 use Rattle.unitfile.specs.declared.ReadUnit.the-variants as U
-use Rattle.peek.specs.Terminator.{terminatorIn}
+use Rattle.recordparts.specs.Terminator.{terminatorIn}
 use Rattle.survey.specs.Surveyed as survey
 use Rattle.survey.specs.Surveyed.{blocksOf}
 use Rattle.survey.proofs.Bounds.{blocks-count}
 use Rattle.survey.proofs.Flat.{endings-count}
-use Rattle.survey.proofs.Standing.{BlockAt, Standing, standing, standing-head, standing-tail}
+use Rattle.survey.specs.Standing.{BlockAt, Standing}
+use Rattle.survey.proofs.Standing.{standing, standing-head, standing-tail}
 use Rattle.lower.specs.Op.{Op, plain, Lowered, slotsOf, insn}
 use Rattle.lower.specs.Operand.{move}
 use Rattle.lower.specs.Held.{endingOps}

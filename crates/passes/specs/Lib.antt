@@ -4,3 +4,4 @@ pub mod Tables
 pub mod Put
 pub mod Places
 pub mod Stages
+pub mod Rows

@@ -9,7 +9,7 @@ use Rattle.ir.specs.declared.Operand.{Operand}
 use Rattle.ir.specs.declared.Operand.the-variants.{Var, Immediate}
 use Rattle.ir.specs.declared.Terminator.{Terminator}
 use Rattle.ir.specs.declared.Terminator.the-variants.{Return, Jump, Branch}
-use Rattle.peek.specs.Terminator.{terminatorIn}
+use Rattle.recordparts.specs.Terminator.{terminatorIn}
 use Rattle.unitfile.specs.Unit.{BasicBlock, parse}
 use Rattle.frame.specs.Hint.{indexBy}
 use Rattle.flow.specs.Node.{among}

@@ -8,7 +8,7 @@ use mir.Syntax.{w32}
 use Rattle.wire.specs.Le.{unsignedAt}
 use Rattle.wire.specs.Pick.{pick}
 use Rattle.record.specs.Frame.{nextAt}
-use Rattle.peek.specs.Terminator.{terminatorIn}
+use Rattle.recordparts.specs.Terminator.{terminatorIn}
 use Rattle.lower.specs.Op.{Op, Lowered, slotsOf}
 use Rattle.lower.specs.Held.{held}
 use Rattle.lower.specs.Payload.{instructionIn, scratchIn}

@@ -8,11 +8,11 @@ use lib.ListN.{getD}
 use lib.Seq.{sets}
 use Rattle.wire.specs.Number.{bytesBefore}
 use Rattle.wire.specs.Pick.{both}
+use Rattle.wire.specs.Range.{fits16}
 use Rattle.insn.specs.Form.{opcodeOf}
 use Rattle.insn.specs.declared.Insn.{Insn}
 use Rattle.insn.specs.declared.form.Form.the-variants.{MovReg, Ja, JneImm}
 use Rattle.lower.specs.Op.{Op, plain, map, ja, jne, slotsOf}
-use Rattle.lower.specs.Operand.{fits16}
 use Rattle.lower.specs.Put.{wideInsn, zeroInsn}
 use Rattle.lower.specs.declared.MapUse.{MapUse}
 use Rattle.lower.specs.declared.MapUse.the-variants as M
@@ -51,7 +51,7 @@ reaches a b s (jne id ∷ l) = both (fits16 (distance a s)) (reaches b b (suc s)
 -- there is room at slot s of the code and at the t-th number of the relocations
 pub record RoomAt (l : List Op) (s t bytes numbers : ℕ) : Type 0 where
   pub few : s + slotsOf l ≤ 851969
-  pub code : 8 * (s + slotsOf l) ≤ bytes
+  pub code : bytesBefore (s + slotsOf l) ≤ bytes
   pub relocs : t + 2 * mapsOf l ≤ numbers
 
 -- the relocation of a map's load at slot s
@@ -69,7 +69,7 @@ pub record Relocates (m : MapUse) (n s t : ℕ) (rs : List ℕ) (s′ t′ : ℕ
 pub record Puts (become : ℕ → List Op → List Insn) (l : List Op) (s t : ℕ) (cs rs : List ℕ) (s′ t′ : ℕ) (cs′ rs′ : List ℕ) : Type 0 where
   pub slot : s′ ≡ s + slotsOf l
   pub reloc : t′ ≡ t + 2 * mapsOf l
-  pub code : cs′ ≡ sets cs (8 * s) (codeBytes (become s l))
+  pub code : cs′ ≡ sets cs (bytesBefore s) (codeBytes (become s l))
   pub relocs : rs′ ≡ sets rs t (relocations s l)
 
 -- from slot s on, with the slots a and b they are the instructions that they are by the emitted blocks, and every distance is in range

@@ -5,7 +5,9 @@ use mathlib.Core.List.{List}
 use Prim.Native.Nat.{ℕ, _*_, _≤_, _<_}
 use lib.ListN.{length, getD}
 use lib.Seq.{sets}
+use Rattle.wire.specs.Number.{bytesBefore}
 use Rattle.wire.specs.Pick.{pick}
+use Rattle.wire.specs.Range.{fits32}
 use Rattle.ir.specs.declared.Operand.{Operand}
 use Rattle.ir.specs.declared.Operand.the-variants.{Var, Immediate}
 use Rattle.unitfile.specs.Unit.{BasicBlock}
@@ -13,7 +15,6 @@ use Rattle.flow.specs.Computed.{isReached}
 use Rattle.flow.specs.Linked.{numberFrom}
 use Rattle.survey.specs.Surveyed as survey
 use Rattle.lower.specs.Op.{Op, slotsOf}
-use Rattle.lower.specs.Operand.{fits32}
 use Rattle.lower.specs.declared.Reason.the-variants as Re
 use Rattle.lower.specs.declared.Outcome.{Outcome}
 use Rattle.lower.specs.declared.Outcome.the-variants as O
@@ -84,5 +85,5 @@ unitLanding c e bs = landing (starts c (keepBy e 0 bs)) (jumps c (keepBy e 0 bs)
 -- there is room for a unit's code and its relocations, in bytes and in u32s
 pub record Room (l : List Op) (bytes numbers : ℕ) : Type 0 where
   pub few : slotsOf l ≤ 851969
-  pub code : 8 * slotsOf l ≤ bytes
+  pub code : bytesBefore (slotsOf l) ≤ bytes
   pub relocs : 2 * mapsOf l ≤ numbers

@@ -19,7 +19,7 @@ use Rattle.insn.specs.declared.form.Form.the-variants.{NoForm, WideLoad, Ldx, S
 use Rattle.shape.specs.Code.{at, formAt}
 use Rattle.shape.specs.Fields.{uses}
 use Rattle.shape.specs.Shape.{target}
-use Rattle.paths.specs.Way.{Next, Next.on, Next.jump}
+use Rattle.paths.specs.Way.{Next, on, jump}
 use Rattle.paths.specs.Mask.{nowhere, landing, flowOf, nodeOf, nodeAt}
 
 onward : ℕ → ℕ → ℕ

@@ -8,3 +8,4 @@ pub mod Runs
 pub mod Signed
 pub mod Unique
 pub mod Lacking
+pub mod Unreached

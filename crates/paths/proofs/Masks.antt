@@ -7,19 +7,15 @@ use native.Mathlib.Nat.{pow-suc, le-of-suc-le-suc}
 use native.Mathlib.Omega.{arith}
 use lib.Bits.{bitAnd, bitOr, or-lt}
 use lib.Dec.{eqb}
-use lib.ListN.{length, List·getD-eq-default}
 use borrow.Author.Tests.{ne-eqb}
 use Rattle.wire.specs.Pick.{pick, either}
-use Rattle.worklist.proofs.Bit.{bit-zero, bit-suc, bit-ext, bit-or, bit-and, bit-of-zero}
+use Rattle.wire.specs.Bit.{bit}
+use Rattle.wire.proofs.Bits.{bit-zero, bit-suc, bit-ext, bit-or, bit-and, bit-of-zero}
 use Rattle.insn.specs.declared.Insn.{Insn}
 use Rattle.insn.specs.declared.form.Form.{Form}
 use Rattle.insn.specs.declared.form.Form.the-variants.{NoForm, WideLoad, Ldx, Stx, AluImm, AluReg, MovImm, MovReg, Ja, JeqImm, JneImm, Call, Exit}
-use Rattle.insn.specs.Layout.{insnAt}
-use Rattle.insn.specs.Form.{formOf}
-use Rattle.insn.specs.Rfc.{sizeField}
 use Rattle.shape.specs.Code.{at, formAt}
 use Rattle.paths.specs.Registers.{Regs, reads, atStart, with, called, after}
-use Rattle.paths.specs.Readable.{bit}
 use Rattle.paths.specs.Mask.{mask, readMask, only, flowOf, nodeOf, nodeAt}
 use Rattle.paths.specs.Work.{through}
 use Rattle.paths.specs.declared.node.Node.{Node}
@@ -76,7 +72,7 @@ mask-bit m (suc k) (suc r) h =
     bit-suc (mask m (suc k)) r ∙ ap (λ (x : ℕ). bit x r) (rest (m 0) (mask (λ r. m (suc r)) k)) ∙ mask-bit (λ r. m (suc r)) k r (le-of-suc-le-suc h)
 
 -- a number with the same bits is the mask
-pub mask-ext : (m : Regs) (k x : ℕ) → x < 2 ^ k → ((r : ℕ) → r < k → bit x r ≡ num (m r)) → x ≡ mask m k
+mask-ext : (m : Regs) (k x : ℕ) → x < 2 ^ k → ((r : ℕ) → r < k → bit x r ≡ num (m r)) → x ≡ mask m k
 mask-ext m k x l h = bit-ext k x (mask m k) l (mask-lt m k) (λ r lr. h r lr ∙ sym (mask-bit m k r lr))
 
 pub mask-or : (p q : Regs) (k : ℕ) → bitOr (mask p k) (mask q k) ≡ mask (λ r. either (p r) (q r)) k
@@ -85,7 +81,7 @@ mask-or p q k =
     (λ r lr. omega (arith, bit-or (mask p k) (mask q k) r, mask-bit p k r lr, mask-bit q k r lr, num-either (p r) (q r)))
 
 -- what holds of each number below 12, from each of the twelve
-pub each12 : (P : ℕ → Type 0) → P 0 × P 1 × P 2 × P 3 × P 4 × P 5 × P 6 × P 7 × P 8 × P 9 × P 10 × P 11 → (r : ℕ) → r < 12 → P r
+each12 : (P : ℕ → Type 0) → P 0 × P 1 × P 2 × P 3 × P 4 × P 5 × P 6 × P 7 × P 8 × P 9 × P 10 × P 11 → (r : ℕ) → r < 12 → P r
 each12 P h zero l = h .0
 each12 P h (suc zero) l = h .1
 each12 P h (suc (suc zero)) l = h .2
@@ -179,12 +175,3 @@ unmade b v = bit-11 (nodeAt b v .made) (made-lt v (at b v) (flowOf (formAt b v))
 pub start-bit : (r : ℕ) → r < 11 → bit 1026 r ≡ num (atStart r)
 unfolding mask atStart
 start-bit r l = mask-bit atStart 11 r l
-
--- past the end stands no instruction, so nothing is read
-form-past : (b : List ℕ) (s : ℕ) → length b / 8 < s → formAt b s ≡ NoForm
-unfolding formAt at insnAt formOf sizeField
-form-past b s h = rw (List·getD-eq-default b 0 {n = 8 * s} (omega arith))
-
-pub reads-past : (b : List ℕ) (s : ℕ) → length b / 8 < s → 0 ≡ readMask b s
-unfolding readMask reads mask
-reads-past b s h = rw (form-past b s h)

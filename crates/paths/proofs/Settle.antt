@@ -11,17 +11,19 @@ use lib.ListN.{length, getD, set, length-set, List·getD-eq-default}
 use lib.Seq.{getD-set-same}
 use borrow.Author.Tests.{le-leb, lt-ltb, leb-true, ltb-true}
 use Rattle.wire.specs.Pick.{both, either}
+use Rattle.wire.specs.Bit.{bit}
 use Rattle.worklist.specs.Words.{listed, Sound}
 use Rattle.worklist.specs.Set.{markedLow, markedMid, markedTop}
-use Rattle.worklist.proofs.Bit.{low-bit}
+use Rattle.wire.proofs.Bits.{low-bit}
 use Rattle.worklist.proofs.Total.{after-set}
 use Rattle.worklist.proofs.Words.{marked}
 use Rattle.shape.specs.Code.{slots, at}
+use Rattle.shape.proofs.Tests.{both-true, either-true}
 use Rattle.paths.specs.Registers.{Regs, atStart}
-use Rattle.paths.specs.Way.{Next, Way, Way.begin, Way.step, Passes}
-use Rattle.paths.specs.Readable.{bit, Readable, Told}
+use Rattle.paths.specs.Way.{Next, Way, Way.begin, Way.step, Reached, Passes}
+use Rattle.paths.specs.Readable.{Readable, Told}
 use Rattle.paths.specs.Mask.{nowhere, nodeAt}
-use Rattle.paths.specs.Work.{tab, through, Sub, Reached, Table, Work, beyond, leaving, Settled, Solved}
+use Rattle.paths.specs.Work.{tab, through, Sub, Table, Work, beyond, leaving, Settled, Solved}
 use Rattle.paths.specs.declared.Ends.{Ends}
 use Rattle.paths.proofs.Masks.{num, num-le, num-true, num-false, full, through-bit, after-bit, bit-11, unmade, start-bit}
 use Rattle.paths.proofs.Leads.{leads, leads-on, leads-to, near}
@@ -81,18 +83,6 @@ bits-low : (x : ℕ) → x < 4096 → bit x 11 ≡ 0 → x < 2048
 unfolding bit
 bits-low x l z = omega arith
 
-both-left : (p q : Bool) → both p q ≡ true → p ≡ true
-both-left true q e = refl
-both-left false q e = e
-
-both-right : (p q : Bool) → both p q ≡ true → q ≡ true
-both-right true q e = e
-both-right false q e = absurd (true≢false (sym e))
-
-either-cases : (p q : Bool) → either p q ≡ true → (p ≡ true) ⊎ (q ≡ true)
-either-cases true q e = inl refl
-either-cases false q e = inr e
-
 module _ (b t : List ℕ) (S : Settled b t) where
   mask-at : (v : ℕ) → tab t v ≡ getD t v 0
   mask-at v = omega (arith, S .calm v)
@@ -135,7 +125,7 @@ module _ (b t : List ℕ) (S : Settled b t) where
   unfolding beyond
   beyond-is w h l = simp (le-leb (length t) w (omega (arith, size)), lt-ltb w nowhere l)
 
-  pub leaving-is : {v w : ℕ} {m : Regs} → Way b v m → v < slots b → slots b ≤ 131072 → Next b v w → slots b ≤ w → leaving b t v ≡ true
+  leaving-is : {v w : ℕ} {m : Regs} → Way b v m → v < slots b → slots b ≤ 131072 → Next b v w → slots b ≤ w → leaving b t v ≡ true
   unfolding leaving
   leaving-is {v} {w} p lv ln e h =
       let c : getD t v 0 < 2048 = bits-low (getD t v 0) (S .calm v) (subst (λ (x : ℕ). bit x 11 ≡ 0) (mask-at v) (below p lv .0)) in
@@ -155,12 +145,12 @@ module _ (b t : List ℕ) (S : Settled b t) where
   pub outside : (v : ℕ) → v < length t → leaving b t v ≡ true → Passes b
   unfolding leaving beyond
   outside v l e =
-      let c : getD t v 0 < 2048 = ltb-true (getD t v 0) 2048 (both-left (ltb (getD t v 0) 2048) _ e) in
+      let c : getD t v 0 < 2048 = ltb-true (getD t v 0) 2048 (both-true (ltb (getD t v 0) 2048) _ e .0) in
       let lv : v < slots b = omega (arith, size) in
       let p : Reached b v = S .table .came v lv (subst (λ (x : ℕ). bit x 11 ≡ 0) (sym (mask-at v)) (bit-11 (getD t v 0) c)) in
       let far : (w : ℕ) → beyond (length t) w ≡ true → (slots b ≤ w) × (w < nowhere) =
-      λ w q. (omega (arith, leb-true (length t) w (both-left (leb (length t) w) (ltb w nowhere) q), size), ltb-true w nowhere (both-right (leb (length t) w) (ltb w nowhere) q))
+      λ w q. let p = both-true (leb (length t) w) (ltb w nowhere) q in (omega (arith, leb-true (length t) w (p .0), size), ltb-true w nowhere (p .1))
       in
       ⊎-elim (λ q. (nodeAt b v .on, (_, (step (p .1) lv (leads-on b v (far (nodeAt b v .on) q .1)), far (nodeAt b v .on) q .0))))
       (λ q. (nodeAt b v .to, (_, (step (p .1) lv (leads-to b v (far (nodeAt b v .to) q .1)), far (nodeAt b v .to) q .0))))
-      (either-cases (beyond (length t) (nodeAt b v .on)) (beyond (length t) (nodeAt b v .to)) (both-right (ltb (getD t v 0) 2048) _ e))
+      (either-true (beyond (length t) (nodeAt b v .on)) (beyond (length t) (nodeAt b v .to)) (both-true (ltb (getD t v 0) 2048) _ e .1))

@@ -1,4 +1,4 @@
--- Signed fields: where a jump lands, and which registers a helper reads.
+-- Signed fields: where a jump lands.
 use mathlib.Core.Path.{_≡_, refl}
 use mathlib.Core.Bool.{true, false, true≢false}
 use Prim.Native.Nat.{ℕ, suc, _+_, _-_, _<_, _≤_, _^_}
@@ -7,13 +7,12 @@ use native.Mathlib.Numerals.{sub-one}
 use lib.Dec.{T}
 use lib.IntN.{ℤ, pos, negsuc, _-ℤ_, natAbs}
 use lib.Signed.{nonNeg, ltZ}
-use borrow.Author.Tests.{lt-ltb, le-ltb, ltb-true, ne-eqb}
+use borrow.Author.Tests.{lt-ltb, le-ltb, ltb-true}
 use mir.Syntax.{Width}
 use mir.Val.{SFits, toZ, ofZ, hbits}
 use mir.ValLaws.{toZ-ofZ}
 use Rattle.shape.specs.Shape.{target}
-use Rattle.paths.specs.Registers.{arguments, argument}
-use Rattle.paths.specs.Mask.{mask, nowhere, landing}
+use Rattle.paths.specs.Mask.{nowhere, landing}
 
 -- ---- a signed number by its sign, as the program reads it
 
@@ -59,15 +58,3 @@ lands-back s n z e h = rw e (simp (le-ltb (suc s) (suc n) (omega arith)) (omega 
 pub lands-on : (s n : ℕ) (z : ℤ) → z ≡ pos n → s + 1 + n ≡ landing (target s z)
 unfolding landing target
 lands-on s n z e = rw e (omega arith)
-
--- ---- which registers a helper reads
-
-pub reads-none : (z : ℤ) (n : ℕ) → z ≡ negsuc n → 0 ≡ mask (argument z) 11
-unfolding mask argument
-reads-none z n e = rw e
-
-pub reads-other : (z : ℤ) (h : ℕ) → z ≡ pos h → (h ≡ 1 → ⊥) → (h ≡ 132 → ⊥) → (h ≡ 2 → ⊥) → (h ≡ 113 → ⊥) → (h ≡ 114 → ⊥) → (h ≡ 115 → ⊥) → (h ≡ 131 → ⊥)
-    → 0 ≡ mask (argument z) 11
-unfolding mask argument arguments
-reads-other z h e a b c d f g i =
-    rw e (simp (ne-eqb h 1 a, ne-eqb h 132 b, ne-eqb h 2 c, ne-eqb h 113 d, ne-eqb h 114 f, ne-eqb h 115 g, ne-eqb h 131 i))

@@ -9,16 +9,16 @@ use native.Mathlib.Omega.{arith}
 use lib.Bits.{and-le-l}
 use lib.ListN.{length, getD, set, length-set, List·getD-eq-default}
 use lib.Seq.{getD-set-same}
+use Rattle.wire.specs.Bit.{bit}
 use Rattle.worklist.specs.Words.{total, listed, Marked, Took}
 use Rattle.worklist.specs.Set.{lead, takenLow, takenMid, taken}
 use Rattle.worklist.specs.declared.Taken.{Taken}
 use Rattle.worklist.proofs.Total.{total-set, after-set}
 use Rattle.worklist.proofs.Words as words
 use Rattle.shape.specs.Code.{slots}
-use Rattle.paths.specs.Way.{Next, Way.step, Lacks}
-use Rattle.paths.specs.Readable.{bit}
+use Rattle.paths.specs.Way.{Next, Way.step, Reached, Lacks}
 use Rattle.paths.specs.Mask.{nodeAt}
-use Rattle.paths.specs.Work.{tab, through, Sub, Reached, Table, Kept, Work, rank, left, lowered, Relaxed, Relaxed.past, Relaxed.same, Relaxed.pushed, Relaxed.again, Settled}
+use Rattle.paths.specs.Work.{tab, through, Sub, Table, Kept, Work, rank, left, lowered, Relaxed, Relaxed.past, Relaxed.same, Relaxed.pushed, Relaxed.again, Settled}
 use Rattle.paths.proofs.Leads.{leads, leads-on, leads-to}
 use Rattle.paths.proofs.Table.{sub-trans, sub-at, sub-and-r, Falls, falls-refl, falls-trans, falls, stored, stored-sub, rested, unflagged, unflagged-less, brought, closed}
 

@@ -9,15 +9,15 @@ use native.Mathlib.Omega.{arith}
 use lib.Bits.{bitAnd, and-le-l}
 use lib.ListN.{length, getD, set, length-set}
 use lib.Seq.{getD-set-same}
+use Rattle.wire.specs.Bit.{bit}
 use Rattle.worklist.specs.Words.{total}
-use Rattle.worklist.proofs.Bit.{bit-le, bit-and}
+use Rattle.wire.proofs.Bits.{bit-le, bit-and}
 use Rattle.worklist.proofs.Total.{total-set, after-set}
 use Rattle.shape.specs.Code.{slots, at, formAt}
 use Rattle.paths.specs.Registers.{after}
-use Rattle.paths.specs.Way.{Next, Way.step, Lacks}
-use Rattle.paths.specs.Readable.{bit}
+use Rattle.paths.specs.Way.{Next, Way.step, Reached, Lacks}
 use Rattle.paths.specs.Mask.{nodeAt}
-use Rattle.paths.specs.Work.{tab, through, Sub, Reached, Passed, Table, rank, lowered}
+use Rattle.paths.specs.Work.{tab, through, Sub, Passed, Table, rank, lowered}
 use Rattle.paths.proofs.Masks.{num, num-le, num-false, through-bit, after-bit}
 
 -- ---- masks below masks
@@ -59,7 +59,7 @@ passed b t u v w f p = ⊎-elim (λ x. inl x) (λ o. inr (⊎-elim (λ z. inl z)
 
 -- ---- a mask lowered
 
-pub lowered-lt : (t : List ℕ) (w out : ℕ) → lowered t w out < 4096
+lowered-lt : (t : List ℕ) (w out : ℕ) → lowered t w out < 4096
 lowered-lt t w out = omega (arith, and-le-l (tab t w) out)
 
 module _ (b : List ℕ) (x : ℕ) (t : List ℕ) (w out : ℕ) (T : Table b x t) (lw : w < length t) where

@@ -7,10 +7,11 @@ use native.Mathlib.Decide.{decLt, ℕ-discrete}
 use native.Mathlib.Omega.{arith}
 use lib.ListN.{getD, drop}
 use lib.Seq.{ext-getD, getD-drop}
-use Rattle.worklist.proofs.Bit.{bit-le, bit-ext}
+use Rattle.wire.specs.Bit.{bit}
+use Rattle.wire.proofs.Bits.{bit-le, bit-ext}
 use Rattle.shape.specs.Code.{slots}
 use Rattle.paths.specs.Way.{Always, Lacks}
-use Rattle.paths.specs.Readable.{bit, Readable, Filled, fits, Told, AnalysedBy, Analysed}
+use Rattle.paths.specs.Readable.{Readable, Filled, fits, Told, AnalysedBy, Analysed}
 use Rattle.paths.specs.declared.Ends.{Ends}
 use Rattle.paths.specs.declared.Ends.the-variants as E
 

@@ -1,6 +1,7 @@
 -- Registers as a mask, bit r for register r, and what the program takes from an instruction.
-use Prim.Native.Nat.{ℕ, zero, suc, _+_, _*_}
+use Prim.Native.Nat.{ℕ, zero, suc, _+_, _-_, _*_}
 use mathlib.Core.List.{List}
+use lib.Bits.{bitAnd}
 use lib.Dec.{eqb}
 use lib.IntN.{ℤ, pos, negsuc}
 use Rattle.wire.specs.Pick.{pick}
@@ -22,6 +23,10 @@ mask m (suc k) = pick (m 0) 1 0 + 2 * mask (λ r. m (suc r)) k
 -- the registers 0 to 10 that the instruction at slot s reads
 unfoldable pub readMask : List ℕ → ℕ → ℕ
 readMask b s = mask (reads (formAt b s) (at b s)) 11
+
+-- of the registers in need those that are not in x
+abbrev pub lacking : ℕ → ℕ → ℕ
+lacking need x = bitAnd need (2047 - x)
 
 -- one register
 unfoldable pub only : ℕ → Regs

@@ -6,12 +6,11 @@ use mathlib.Core.List.{List}
 use lib.Dec.{leb, ltb}
 use lib.ListN.{length, getD, drop}
 use Rattle.wire.specs.Pick.{both}
+use Rattle.wire.specs.Bit.{bit}
 use Rattle.shape.specs.Code.{slots}
 use Rattle.paths.specs.Way.{Always, Lacks, Passes}
 use Rattle.paths.specs.declared.Ends.{Ends}
 use Rattle.paths.specs.declared.Ends.the-variants as E
--- bit x r = x / 2 ^ r % 2
-unfoldable pub use Rattle.worklist.specs.Words.{bit}
 
 -- x holds exactly the registers readable on every path to slot s: a clear bit has a path that lacks the register
 pub record Readable (b : List ℕ) (s x : ℕ) : Type 0 where

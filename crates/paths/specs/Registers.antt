@@ -2,21 +2,15 @@
 use Prim.Native.Nat.{ℕ}
 use mathlib.Core.Bool.{Bool, true, false}
 use lib.Dec.{eqb, leb}
-use lib.IntN.{ℤ, pos, negsuc}
-use Rattle.wire.specs.Pick.{pick, both, either, not}
+use Rattle.wire.specs.Pick.{pick, both, either}
+use Rattle.insn.specs.Helper.{helperOf, arguments}
 use Rattle.insn.specs.declared.Insn.{Insn}
 use Rattle.insn.specs.declared.form.Form.{Form}
 use Rattle.insn.specs.declared.form.Form.the-variants.{NoForm, WideLoad, Ldx, Stx, AluImm, AluReg, MovImm, MovReg, Ja, JeqImm, JneImm, Call, Exit}
 
--- how many of R1, R2, R3, R4 a helper reads: R1 to R2 (1, 132), R1 to R4 (2), R1 to R3 (113, 114, 115, 131) or none
-unfoldable pub arguments : ℕ → ℕ
-arguments h =
-    pick (either (eqb h 1) (eqb h 132)) 2
-    (pick (eqb h 2) 4 (pick (either (either (eqb h 113) (eqb h 114)) (either (eqb h 115) (eqb h 131))) 3 0))
-
-unfoldable pub argument : ℤ → ℕ → Bool
-argument (pos h) r = both (leb 1 r) (leb r (arguments h))
-argument (negsuc h) r = false
+-- register r is one of so many from R1 on
+unfoldable pub argument : ℕ → ℕ → Bool
+argument n r = both (leb 1 r) (leb r n)
 
 -- register r is read by the instruction
 unfoldable pub reads : Form → Insn → ℕ → Bool
@@ -31,7 +25,7 @@ reads MovReg i r = eqb r (i .src)
 reads Ja i r = false
 reads JeqImm i r = eqb r (i .dst)
 reads JneImm i r = eqb r (i .dst)
-reads Call i r = argument (i .imm) r
+reads Call i r = argument (arguments (helperOf (i .imm))) r
 reads Exit i r = eqb r 0
 
 -- the registers that are readable at a point

@@ -8,12 +8,12 @@ use lib.Bits.{bitAnd, bitOr}
 use lib.Dec.{ltb, leb}
 use lib.ListN.{length, getD, set}
 use Rattle.wire.specs.Pick.{both, either}
+use Rattle.wire.specs.Bit.{bit}
 use Rattle.worklist.specs.Words.{total, listed, Sound, weight}
 use Rattle.worklist.specs.Set.{markedLow, markedMid, markedTop}
 use Rattle.shape.specs.Code.{slots}
-use Rattle.paths.specs.Registers.{Regs}
-use Rattle.paths.specs.Way.{Next, Way, Lacks}
-use Rattle.paths.specs.Readable.{bit, Readable, Told}
+use Rattle.paths.specs.Way.{Next, Reached, Lacks}
+use Rattle.paths.specs.Readable.{Readable, Told}
 use Rattle.paths.specs.Mask.{nowhere, nodeAt}
 use Rattle.paths.specs.declared.node.Node.{Node}
 use Rattle.paths.specs.declared.Ends.{Ends}
@@ -29,9 +29,6 @@ through x m = bitOr (bitAnd m (x .keep)) (x .made)
 -- each bit of a is a bit of b
 pub record Sub (a b : ℕ) : Type 0 where
   pub below : (r : ℕ) → bit a r ≤ bit b r
-
-abbrev pub Reached : List ℕ → ℕ → Type 0
-Reached b v = (m : Regs) × Way b v m
 
 -- a path has come to slot v, which does not wait: what it brings to slot w is in w's mask
 abbrev pub Passed : List ℕ → List ℕ → ℕ → ℕ → Type 0

@@ -2,6 +2,8 @@
 mod node;
 mod work;
 
+use shape::slot::instruction_at;
+use wire::number::SlotNumber;
 ghost use mathlib.Core.Path.{_≡_};
 ghost use Rattle.paths.specs.Mask.{readMask};
 ghost use Rattle.paths.specs.Readable.{Analysed};
@@ -33,12 +35,9 @@ pub fn analyse(code: &[u8], table: &mut [u16]) -> Ends
 }
 
 // The registers 0 to 10 that the instruction at a slot reads, bit r for register r; none past the end.
-pub fn read_mask(code: &[u8], slot: usize) -> u16
-    ensures { λ r. ⌜ r ≡ readMask (now (code .entry)) slot ⌝ }
+pub fn read_mask(code: &[u8], slot: SlotNumber) -> u16
+    ensures { λ r. ⌜ r ≡ readMask (now (code .entry)) (slot .0) ⌝ }
 {
-    if code.len() / 8 < slot {
-        return 0;
-    }
-    let i = insn::insn_at(code, 8 * slot);
+    let i = instruction_at(code, slot);
     node::reads_of(i, insn::form::form_of(i.code))
 }

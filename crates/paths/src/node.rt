@@ -1,8 +1,13 @@
 // What the analysis takes from an instruction.
 use insn::Insn;
 use insn::form::Form;
+use insn::helper::Helper;
+use insn::helper::helper_of;
+use shape::slot::instruction_at;
+use wire::number::SlotNumber;
 ghost use mathlib.Core.Path.{_≡_};
 ghost use Prim.Native.Nat.{_<_};
+ghost use Rattle.insn.specs.Helper.{helperOf, arguments};
 ghost use Rattle.shape.specs.Shape.{target};
 ghost use Rattle.paths.specs.Registers.{reads, argument};
 ghost use Rattle.paths.specs.Mask.{mask, only, landing, flowOf, nodeOf, nodeAt};
@@ -124,26 +129,17 @@ pub(crate) fn node_at(code: &[u8], s: usize) -> Node
     requires { ⌜ s < 131072 ⌝ }
     ensures { λ r. ⌜ r ≡ nodeAt (now (code .entry)) s ⌝ }
 {
-    let i = insn::insn_at(code, 8 * s);
+    let i = instruction_at(code, SlotNumber(s as u32));
     node_of(s, i, flow_of(insn::form::form_of(i.code)))
 }
 
 // The registers that a helper reads.
 fn arguments_of(imm: i32) -> u16
-    ensures { λ r. ⌜ r ≡ mask (argument imm) 11 ⌝ }
+    ensures { λ r. ⌜ r ≡ mask (argument (arguments (helperOf imm))) 11 ⌝ }
 {
-    if imm < 0 {
-        return 0;
-    }
-    match imm as u32 {
-        1 => 6,
-        132 => 6,
-        2 => 30,
-        113 => 14,
-        114 => 14,
-        115 => 14,
-        131 => 14,
-        _ => 0,
+    match helper_of(imm) {
+        Helper::NoHelper => 0,
+        Helper::Takes(n) => (2u16 << n) - 2,
     }
 }
 

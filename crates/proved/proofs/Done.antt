@@ -21,17 +21,9 @@ use Rattle.tracepoint.specs.Compile.{Lowering, lowered, faulty, onLanding, onLa
 use Rattle.tracepoint.specs.declared.Fault.{Fault}
 use Rattle.tracepoint.specs.declared.Fault.the-variants as F
 use Rattle.tracepoint.specs.declared.Compiled.the-variants as A
-use Rattle.proved.specs.Compiled.{codeWritten, relocsWritten, contextOf}
+use Rattle.proved.specs.Compiled.{contextOf, Lowers, Fits, Wrote}
 
 -- ---- nothing is refused
-
--- the emitted blocks of u become the operations l, and every jump lands
-pub record Lowers (u : UnitIr) (xs : List Start) (l : List Op) : Type 0 where
-  pub variables : List ℕ
-  pub collects : collected (u .blocks) ≡ all variables
-  pub becomes : unitOps (contextOf u variables) (emitted (u .blocks)) ≡ laid l
-  pub lands : landing (starts (contextOf u variables) (emitted (u .blocks))) (jumps (contextOf u variables) (emitted (u .blocks))) ≡ lands
-  pub begins : starts (contextOf u variables) (emitted (u .blocks)) ≡ xs
 
 no-fault : {f : Fault} {xs : List Start} {l : List Op} → faulty f ≡ lowered xs l → ⊥
 no-fault e = let z : _≡_ {A = ℕ} 0 1 = cc in omega arith
@@ -61,15 +53,6 @@ lowers u xs l e = go (collected (u .blocks)) refl e
     go (tooMany place vs) c e = absurd (no-fault e)
 
 -- ---- there is room
-
-pub record Fits (code relocs : ℕ) (low : Lowering) (n m : ℕ) : Type 0 where
-  pub starts : List Start
-  pub ops : List Op
-  pub is : low ≡ lowered starts ops
-  pub slots : slotsOf ops ≡ n
-  pub pairs : length (relocations 0 ops) ≡ 2 * m
-  pub code-room : 8 * n ≤ code
-  pub relocs-room : 2 * m ≤ relocs
 
 pub fits : (code relocs : ℕ) (low : Lowering) (n m : ℕ) → roomed code relocs low ≡ A.Done n m → Fits code relocs low n m
 unfolding roomed
@@ -103,15 +86,6 @@ fits code relocs (lowered xs l) n m e = go (leb (8 * slotsOf l) code) (leb (leng
 -- what was stored at the front of a buffer is its front
 stored : (l new : List ℕ) (n : ℕ) → length new ≡ n → n ≤ length l → take n (sets l 0 new) ≡ new
 stored l new n e h = ap (take n) (sets-eq new l 0 (omega arith)) ∙ take-at new (drop (0 + length new) l) n e
-
--- the unit's code and its relocations
-pub record Wrote (b code relocs : List ℕ) (n m : ℕ) (u : UnitIr) : Type 0 where
-  pub starts : List Start
-  pub ops : List Op
-  pub lowers : Lowers u starts ops
-  pub slots : slotsOf ops ≡ n
-  pub code-is : codeWritten b code relocs n ≡ codeBytes (insns starts 0 ops)
-  pub relocs-are : relocsWritten b code relocs m ≡ relocations 0 ops
 
 module _ (b code relocs : List ℕ) (n m : ℕ) (done : compileAnswer b (length code) (length relocs) ≡ A.Done n m) (u : UnitIr) (read : parse b ≡ parsed u) where
   fronts : (xs : List Start) (l : List Op) → loweringOf (parse b) ≡ lowered xs l → slotsOf l ≡ n → length (relocations 0 l) ≡ 2 * m → 8 * n ≤ length code → 2 * m ≤ length relocs → Wrote b code relocs n m u

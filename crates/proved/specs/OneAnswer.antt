@@ -1,6 +1,7 @@
 -- One answer only: the promise of each public function decides, on every input, its answer and what it leaves in each lent buffer.
 use mathlib.Core.Path.{_≡_}
 use denote.Ref.{now}
+use Rattle.unitfile.specs.MapName.{pointed}
 use Rattle.wire.proofs as wire
 use Rattle.ir.proofs as ir
 use Rattle.insn.proofs as insn
@@ -13,7 +14,7 @@ use Rattle.payloadwriter.proofs as payloadwriter
 use Rattle.recordwriter.proofs as recordwriter
 use Rattle.opening.proofs as opening
 use Rattle.unitfile.proofs as unitfile
-use Rattle.peek.proofs as peek
+use Rattle.recordparts.proofs as recordparts
 use Rattle.frame.proofs as frame
 use Rattle.sort.proofs as sort
 use Rattle.flow.proofs as flow
@@ -45,6 +46,14 @@ pub record OneAnswer : Type 0 where
   pub wire-lies : DecidesAnswer wire.lies.Reads.Post
   pub wire-bits16 : DecidesAnswer wire.bits16.Reads.Post
   pub wire-bits32 : DecidesAnswer wire.bits32.Reads.Post
+  pub wire-bits64 : DecidesAnswer wire.bits64.Reads.Post
+  pub wire-sign64 : DecidesAnswer wire.sign64.Reads.Post
+  pub wire-sign32 : DecidesAnswer wire.sign32.Reads.Post
+  pub wire-fits16 : DecidesAnswer wire.range.fits16.Reads.Post
+  pub wire-fits32 : DecidesAnswer wire.range.fits32.Reads.Post
+  pub wire-least : DecidesAnswer wire.range.least.Reads.Post
+  pub wire-wide8 : DecidesAnswer wire.range.wide8.Reads.Post
+  pub wire-wide32 : DecidesAnswer wire.range.wide32.Reads.Post
   pub wire-get-u8 : DecidesAnswer wire.get_u8.Reads.Post
   pub wire-get-u16 : DecidesAnswer wire.get_u16.Reads.Post
   pub wire-get-u32 : DecidesAnswer wire.get_u32.Reads.Post
@@ -56,7 +65,6 @@ pub record OneAnswer : Type 0 where
   pub wire-put-u16 : Decides wire.put_u16.Reads.Post (λ κ r (b, _). now b)
   pub wire-put-u32 : Decides wire.put_u32.Reads.Post (λ κ r (b, _). now b)
   pub wire-put-u64 : Decides wire.put_u64.Reads.Post (λ κ r (b, _). now b)
-  pub wire-put-i16 : Decides wire.put_i16.Reads.Post (λ κ r (b, _). now b)
   pub wire-put-i32 : Decides wire.put_i32.Reads.Post (λ κ r (b, _). now b)
   pub wire-put-i64 : Decides wire.put_i64.Reads.Post (λ κ r (b, _). now b)
   pub wire-byte-offset : DecidesAnswer wire.number.byte_offset.Reads.Post
@@ -75,6 +83,8 @@ pub record OneAnswer : Type 0 where
   pub insn-ldx-mem : DecidesAnswer insn.ldx_mem.Reads.Post
   pub insn-stx-mem : DecidesAnswer insn.stx_mem.Reads.Post
   pub insn-form-of : DecidesAnswer insn.form.form_of.Reads.Post
+  pub insn-opcode-of : DecidesAnswer insn.opcode_of.Reads.Post
+  pub insn-helper-of : DecidesAnswer insn.helper.helper_of.Reads.Post
   pub text-put-counts : Decides text.put_counts.Reads.Post (λ κ r (out, _). r and now out)
   pub text-put-slot : Decides text.put_slot.Reads.Post (λ κ r (out, _). r and now out)
   pub text-put-reloc : Decides text.put_reloc.Reads.Post (λ κ r (out, _). r and now out)
@@ -82,10 +92,13 @@ pub record OneAnswer : Type 0 where
   pub opcode-operation : DecidesAnswer opcode.operation.Reads.Post
   pub opcode-small-of : DecidesAnswer opcode.small_of.Reads.Post
   pub opcode-opcode-of : DecidesAnswer opcode.opcode_of.Reads.Post
+  pub opcode-fields-of : DecidesAnswer opcode.fields_of.Reads.Post
   pub opcode-opcode-ok : DecidesAnswer opcode.opcode_ok.Reads.Post
   pub opcode-opcode-in : DecidesAnswer opcode.opcode_in.Reads.Post
   pub opcode-map-of : DecidesAnswer opcode.map_of.Reads.Post
   pub opcode-map-ok : DecidesAnswer opcode.map_ok.Reads.Post
+  pub opcode-asks-of : DecidesAnswer opcode.asks.asks_of.Reads.Post
+  pub opcode-enough : DecidesAnswer opcode.asks.enough.Reads.Post
   pub operand-operand-at : DecidesAnswer operand.operand_at.Reads.Post
   pub operand-operands-at : DecidesAnswer operand.operands_at.Reads.Post
   pub operand-is-operand : DecidesAnswer operand.is_operand.Reads.Post
@@ -97,10 +110,9 @@ pub record OneAnswer : Type 0 where
   pub record-read-record : DecidesAnswer reader.read_record.Reads.Post
   pub record-whole : DecidesAnswer reader.whole.Reads.Post
   pub record-kind : DecidesAnswer reader.kind.Reads.Post
-  pub record-not-due : DecidesAnswer reader.not_due.Reads.Post
   pub record-head-ok : DecidesAnswer reader.payload.head_ok.Reads.Post
-  pub record-sized : DecidesAnswer reader.instruction.sized.Reads.Post
-  pub record-fields-at : DecidesAnswer reader.instruction.fields_at.Reads.Post
+  pub record-sized-within : DecidesAnswer reader.instruction.sized_within.Reads.Post
+  pub record-fields-within : DecidesAnswer reader.instruction.fields_within.Reads.Post
   pub recordcheck-check-map : DecidesAnswer recordcheck.check_map.Reads.Post
   pub recordcheck-check-block : DecidesAnswer recordcheck.check_block.Reads.Post
   pub recordcheck-check-inside : DecidesAnswer recordcheck.check_inside.Reads.Post
@@ -112,29 +124,31 @@ pub record OneAnswer : Type 0 where
   pub opening-head-at : DecidesAnswer opening.head_at.Reads.Post
   pub opening-map-from : DecidesAnswer opening.map_from.Reads.Post
   pub opening-open-unit : DecidesAnswer opening.open_unit.Reads.Post
-  pub unitfile-next-record : DecidesAnswer unitfile.next_record.Reads.Post
   pub unitfile-read-unit : DecidesAnswer unitfile.read_unit.Reads.Post
   pub unitfile-map-place : DecidesAnswer unitfile.map_place.Reads.Post
-  pub unitfile-map-name : Decides unitfile.map_name.Reads.Post (λ κ r s. now r)
+  pub unitfile-map-name : Decides unitfile.map_name.Reads.Post (λ κ r s. pointed r)
   pub unitfile-map-named : DecidesAnswer unitfile.map_named.Reads.Post
-  pub peek-terminator-in : DecidesAnswer peek.terminator.terminator_in.Reads.Post
+  pub recordparts-terminator-in : DecidesAnswer recordparts.terminator.terminator_in.Reads.Post
   pub frame-scratch : DecidesAnswer frame.scratch.Reads.Post
   pub frame-index-at : DecidesAnswer frame.hint.index_at.Reads.Post
   pub frame-cell-at : DecidesAnswer frame.hint.cell_at.Reads.Post
   pub frame-put-hints : Decides frame.hint.put_hints.Reads.Post (λ κ r (_, (hints, _)). now hints)
   pub frame-insert : Decides frame.insert.Reads.Post (λ κ r (variables, _). r and now variables)
+  pub frame-fixed : DecidesAnswer frame.fixed.Reads.Post
   pub sort-sort : Decides sort.sort.Reads.Post (λ κ r (keys, _). now keys)
   pub flow-link : Decides flow.link.Reads.Post (λ κ r (_, (_, (_, (targets, (emitted, _))))). now targets and now emitted)
   pub survey-survey-unit : Decides survey.survey_unit.Reads.Post (λ κ r (_, (variables, (ids, (endings, _)))). r and now variables and now ids and now endings)
   pub lower-lower-instruction : Decides lower.lower_instruction.Reads.Post (λ κ r (code, _). r and now code)
   pub lower-scratch-after : DecidesAnswer lower.scratch_after.Reads.Post
   pub lower-lower-terminator : DecidesAnswer lower.lower_terminator.Reads.Post
+  pub lower-refused : DecidesAnswer lower.refused.Reads.Post
   pub size-size-instruction : DecidesAnswer size.size_instruction.Reads.Post
   pub jumps-distance : DecidesAnswer jumps.distance.Reads.Post
   pub jumps-check-jumps : DecidesAnswer jumps.check_jumps.Reads.Post
   pub tracepoint-refusal : DecidesAnswer tracepoint.refusal.Reads.Post
   pub tracepoint-compile-tracepoint : Decides tracepoint.compile_tracepoint.Reads.Post (λ κ r (_, (code, (relocs, _))). r and now code and now relocs)
   pub shape-length-ok : DecidesAnswer shape.length_ok.Reads.Post
+  pub shape-instruction-at : DecidesAnswer shape.slot.instruction_at.Reads.Post
   pub shape-judge : DecidesAnswer shape.judge.Reads.Post
   pub worklist-mark : Decides worklist.mark.Reads.Post (λ κ r (d, (s, _)). r and now d and now s)
   pub worklist-take : Decides worklist.take.Reads.Post (λ κ r (d, (s, _)). r and now d and now s)
@@ -142,8 +156,6 @@ pub record OneAnswer : Type 0 where
   pub paths-read-mask : DecidesAnswer paths.read_mask.Reads.Post
   pub screen-refusal : DecidesAnswer screen.refusal.Reads.Post
   pub screen-screen : Decides screen.screen.Reads.Post (λ κ r (_, (_, (table, _))). r and now table)
-  pub recordfields-bits64 : DecidesAnswer recordfields.word.bits64.Reads.Post
-  pub recordfields-sign64 : DecidesAnswer recordfields.word.sign64.Reads.Post
   pub recordfields-fields-of : DecidesAnswer recordfields.numbers.fields_of.Reads.Post
   pub recordfields-record-from : DecidesAnswer recordfields.meant.record_from.Reads.Post
   pub shurtenbo-compile : Decides shurtenbo.units.shurtenbo_compile.Reads.Post (λ κ r (_, (code, (relocs, (answer, _)))). now code and now relocs and now answer)

@@ -36,10 +36,14 @@ instruction result opcode operands = R.Instruction (record { result = result; op
 unfoldable pub p1 : List ℕ
 p1 = unit 0 1 [] (R.Block 1 ∷ returns 0 ∷ [])
 
+-- "seen"
+abbrev pub seen : List ℕ
+seen = 0x73 ∷ 0x65 ∷ 0x65 ∷ 0x6e ∷ []
+
 -- P2: map "seen", block 1, CallMap result 4, immediate key 5, return variable 4
 unfoldable pub p2 : List ℕ
 p2 =
-    unit 1 1 (115 ∷ 101 ∷ 101 ∷ 110 ∷ [])
+    unit 1 1 seen
     (R.Map 0 4 ∷ R.Block 1 ∷ instruction 4 (C.CallMap 0) (One (Immediate (pos 5))) ∷ R.Terminator (Return (Var 4)) ∷ [])
 
 -- P3: no blocks

@@ -1,5 +1,4 @@
 pub mod Instructions
-pub mod Heads
 pub mod Frames
 pub mod RecordLaws
 pub mod OfKind

@@ -8,7 +8,7 @@ use lib.Dec.{eqb, leb}
 use Rattle.wire.specs.Pick.{both}
 use Rattle.record.specs.Instruction.{instructionAt}
 use Rattle.record.specs.Terminator.{terminatorAt}
-use Rattle.record.specs.Payload.{headAt, headOk, ofInstruction, ofTerminator, payloadAt, kindOf}
+use Rattle.record.specs.Payload.{headIn, headOk, ofInstruction, ofTerminator, payloadAt, kindOf}
 use Rattle.record.specs.declared.Record.{Record}
 use Rattle.record.specs.declared.Record.the-variants as R
 use Rattle.record.specs.declared.instruction.ReadInstruction.{ReadInstruction}
@@ -44,7 +44,7 @@ module _ (kind : ℕ) (b : List ℕ) (at len maps : ℕ) where
   unfolding payloadAt kindOf
   payload-kind =
       either (Kinded kind) (eqb kind 1) _ _
-      (λ k. either (Kinded kind) (both (eqb len 8) (headOk (headAt b at))) _ _ (λ _. value-kind _ kind (sym (eqb-true kind 1 k))) (broken-kind kind))
+      (λ k. either (Kinded kind) (both (eqb len 8) (headOk (headIn b at))) _ _ (λ _. value-kind _ kind (sym (eqb-true kind 1 k))) (broken-kind kind))
       (either (Kinded kind) (eqb kind 2) _ _
       (λ k. either (Kinded kind) (leb len 64) _ _ (λ _. value-kind _ kind (sym (eqb-true kind 2 k))) (broken-kind kind))
       (either (Kinded kind) (eqb kind 3) _ _

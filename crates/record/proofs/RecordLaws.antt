@@ -2,20 +2,18 @@
 use mathlib.Core.Path.{_≡_, refl, subst}
 use mathlib.Core.Bool.{Bool, true, false}
 use mathlib.Core.List.{List}
-use Prim.Native.Nat.{ℕ, _+_, _<_, _≤_}
+use Prim.Native.Nat.{ℕ, _+_, _≤_}
 use native.Mathlib.Omega.{arith}
-use borrow.Author.Tests.{eqb-true, leb-true, ltb-true}
-use lib.Dec.{eqb, leb, ltb}
-use lib.IntN.{ℤ, pos, negsuc}
+use borrow.Author.Tests.{eqb-true, leb-true}
+use lib.Dec.{eqb, leb}
 use lib.ListN.{length}
 use Rattle.wire.specs.Pick.{pick, both}
 use Rattle.ir.specs.declared.Opcode.{Opcode}
-use Rattle.ir.specs.declared.Opcode.the-variants as C
 use Rattle.ir.specs.declared.Instruction.{Instruction}
 use Rattle.record.specs.Frame.{lengthAt, kindAt, wholeAt, nextAt}
-use Rattle.opcode.specs.Opcode.{onMap, when, opcodeOf}
+use Rattle.opcode.specs.Opcode.{mapOk, opcodeOf}
 use Rattle.record.specs.Instruction.{joined, sized, instructionAt}
-use Rattle.record.specs.Payload.{headAt, headOk, ofInstruction, ofTerminator, payloadAt}
+use Rattle.record.specs.Payload.{headIn, headOk, ofInstruction, ofTerminator, payloadAt}
 use Rattle.record.specs.Record.{kindDue, onPayload, readRecord}
 use Rattle.record.specs.declared.Head.{Head}
 use Rattle.record.specs.declared.Record.{Record}
@@ -36,7 +34,7 @@ use Rattle.record.specs.declared.terminator.ReadTerminator.the-variants 
 use Rattle.record.specs.declared.payload.Payload.{Payload}
 use Rattle.record.specs.declared.payload.Payload.the-variants as P
 use Rattle.record.proofs.Frames.{ends-inside}
-use Rattle.opcode.proofs.Opcodes.{both-true}
+use Rattle.opcode.proofs.Opcodes.{both-true, opcode-has}
 
 -- ---- a head's bounds
 
@@ -53,21 +51,6 @@ head-bounds h e =
     record { edition = eqb-true _ _ (first .0); maps = leb-true _ _ (rest .0); blocks = leb-true _ _ (rest .1) }
 
 -- ---- which records can come
-
--- an opcode's map is below the map count
-abbrev pub MapBelow : ℕ → Opcode → Type 0
-MapBelow maps (C.HelperCall id) = Unit {0}
-MapBelow maps C.LoadKey = Unit {0}
-MapBelow maps (C.Store size) = Unit {0}
-MapBelow maps (C.LoadCtx offset size) = Unit {0}
-MapBelow maps (C.LoadPacket offset size) = Unit {0}
-MapBelow maps (C.CopyCtxToMem offset size) = Unit {0}
-MapBelow maps C.NullCheck = Unit {0}
-MapBelow maps (C.Binary op) = Unit {0}
-MapBelow maps (C.CallMap m) = m < maps
-MapBelow maps (C.UpdateMap m) = m < maps
-MapBelow maps (C.RingBufReserve m size) = m < maps
-MapBelow maps (C.RingBufSubmit m) = m < maps
 
 -- what is known of a record by what was due, its payload from start up to next; the other records do not come
 abbrev pub Came : (maps start next : ℕ) → Due → Record → Type 0
@@ -89,7 +72,7 @@ Came maps start next Du.Block (R.Terminator t) = ⊥
 Came maps start next Du.Inside (R.Head h) = ⊥
 Came maps start next Du.Inside (R.Map from len) = ⊥
 Came maps start next Du.Inside (R.Block id) = ⊥
-Came maps start next Du.Inside (R.Instruction i) = MapBelow maps (i .opcode)
+Came maps start next Du.Inside (R.Instruction i) = mapOk maps (i .opcode) ≡ true
 Came maps start next Du.Inside (R.Terminator t) = Unit {0}
 
 -- what is known of the record r that was read at a byte, and of the byte after it
@@ -126,40 +109,20 @@ either Q false x y f g = g
 
 -- ---- opcodes
 
-record Below (maps : ℕ) (o : ReadOpcode) : Type 0 where
-  below : IfOpcode (MapBelow maps) o
+record Below (maps : ℕ) (x : ReadOpcode) : Type 0 where
+  below : IfOpcode (λ o. mapOk maps o ≡ true) x
 
-module _ (maps : ℕ) where
-  when-below : (t : Bool) (o : ReadOpcode) → Below maps o → Below maps (when t o)
-  unfolding when
-  when-below true o h = h
-  when-below false o h = record { below = tt }
-
-  map-below : (z : ℤ) (of : ℕ → Opcode) → ((m : ℕ) → m < maps → MapBelow maps (of m)) → Below maps (onMap maps z of)
-  unfolding onMap
-  map-below (pos m) of h = either (Below maps) (ltb m maps) (O.Is (of m)) O.Broken (λ e. record { below = h m (ltb-true m maps e) }) (record { below = tt })
-  map-below (negsuc m) of h = record { below = tt }
-
-  opcode-below : (f : Fields) → Below maps (opcodeOf f maps)
-  unfolding opcodeOf
-  opcode-below f =
-      either (Below maps) (eqb (f .code) 1) _ _ (λ _. when-below _ _ (record { below = tt }))
-      (either (Below maps) (eqb (f .code) 2) _ _ (λ _. when-below _ _ (record { below = tt }))
-      (either (Below maps) (eqb (f .code) 3) _ _ (λ _. when-below _ _ (record { below = tt }))
-      (either (Below maps) (eqb (f .code) 4) _ _ (λ _. when-below _ _ (record { below = tt }))
-      (either (Below maps) (eqb (f .code) 5) _ _ (λ _. when-below _ _ (record { below = tt }))
-      (either (Below maps) (eqb (f .code) 6) _ _ (λ _. when-below _ _ (record { below = tt }))
-      (either (Below maps) (eqb (f .code) 7) _ _ (λ _. when-below _ _ (record { below = tt }))
-      (either (Below maps) (eqb (f .code) 8) _ _ (λ _. when-below _ _ (record { below = tt }))
-      (either (Below maps) (eqb (f .code) 9) _ _ (λ _. when-below _ _ (map-below _ _ (λ m h. h)))
-      (either (Below maps) (eqb (f .code) 10) _ _ (λ _. when-below _ _ (map-below _ _ (λ m h. h)))
-      (either (Below maps) (eqb (f .code) 11) _ _ (λ _. when-below _ _ (map-below _ _ (λ m h. h)))
-      (either (Below maps) (eqb (f .code) 12) _ _ (λ _. when-below _ _ (map-below _ _ (λ m h. h))) (record { below = tt }))))))))))))
+opcode-below : (maps : ℕ) (f : Fields) → Below maps (opcodeOf f maps)
+opcode-below maps f = go (opcodeOf f maps) refl
+  where
+    go : (x : ReadOpcode) → opcodeOf f maps ≡ x → Below maps x
+    go (O.Is o) e = record { below = opcode-has f maps o e .map }
+    go O.Broken e = record { below = tt }
 
 -- ---- instructions
 
 record MapsBelow (maps : ℕ) (x : ReadInstruction) : Type 0 where
-  below : IfInstruction (λ i. MapBelow maps (i .opcode)) x
+  below : IfInstruction (λ i. mapOk maps (i .opcode) ≡ true) x
 
 joined-below : (maps result : ℕ) (o : ReadOpcode) (l : ReadOperands) → Below maps o → MapsBelow maps (joined result o l)
 unfolding joined
@@ -184,7 +147,7 @@ module _ (maps : ℕ) (b : List ℕ) (start len : ℕ) where
   head-comes : Here Du.Head (payloadAt 1 b start len maps)
   unfolding payloadAt
   head-comes =
-      either (Here Du.Head) (both (eqb len 8) (headOk (headAt b start))) _ _ (λ e. record { comes = both-true (eqb len 8) (headOk (headAt b start)) e .1 }) (record { comes = tt })
+      either (Here Du.Head) (both (eqb len 8) (headOk (headIn b start))) _ _ (λ e. record { comes = both-true (eqb len 8) (headOk (headIn b start)) e .1 }) (record { comes = tt })
 
   map-comes : Here Du.Map (payloadAt 2 b start len maps)
   unfolding payloadAt

@@ -20,15 +20,15 @@ use Rattle.record.specs.declared.instruction.ReadInstruction.{ReadInstru
 use Rattle.record.specs.declared.instruction.ReadInstruction.the-variants as I
 
 -- the four fields
-unfoldable pub fieldsAt : List ℕ → ℕ → Fields
-fieldsAt b at = record { code = byteAt b (at + 4); small = byteAt b (at + 5); offset = signedAt w32 b (at + 8); number = unsignedAt w32 b (at + 12) }
+unfoldable pub fieldsIn : List ℕ → ℕ → Fields
+fieldsIn b at = record { code = byteAt b (at + 4); small = byteAt b (at + 5); offset = signedAt w32 b (at + 8); number = unsignedAt w32 b (at + 12) }
 
 -- the same; zeros where a payload does not lie in b
-unfoldable pub fieldsIn : List ℕ → ℕ → Fields
-fieldsIn b at = pick (leb (at + 16) (length b)) (fieldsAt b at) (record { code = 0; small = 0; offset = pos 0; number = 0 })
+unfoldable pub fieldsWithin : List ℕ → ℕ → Fields
+fieldsWithin b at = pick (leb (at + 16) (length b)) (fieldsIn b at) (record { code = 0; small = 0; offset = pos 0; number = 0 })
 
-unfoldable pub countAt : List ℕ → ℕ → ℕ
-countAt b at = byteAt b (at + 6)
+unfoldable pub countIn : List ℕ → ℕ → ℕ
+countIn b at = byteAt b (at + 6)
 
 unfoldable pub joined : ℕ → ReadOpcode → ReadOperands → ReadInstruction
 joined result (C.Is o) (L.Is l) = I.Is (record { result = result; opcode = o; operands = l })
@@ -38,12 +38,12 @@ joined result C.Broken L.Broken = I.Broken
 
 -- the payload of len bytes at a byte is as long as its operand count asks, and has its zero
 unfoldable pub sized : List ℕ → ℕ → ℕ → Bool
-sized b at len = both (leb 16 len) (both (leb (countAt b at) 8) (both (eqb len (16 + 9 * countAt b at)) (eqb (byteAt b (at + 7)) 0)))
+sized b at len = both (leb 16 len) (both (leb (countIn b at) 8) (both (eqb len (16 + 9 * countIn b at)) (eqb (byteAt b (at + 7)) 0)))
 
 -- the same, and the payload lies in b
-unfoldable pub sizedIn : List ℕ → ℕ → ℕ → Bool
-sizedIn b at len = both (leb (at + len) (length b)) (sized b at len)
+unfoldable pub sizedWithin : List ℕ → ℕ → ℕ → Bool
+sizedWithin b at len = both (leb (at + len) (length b)) (sized b at len)
 
 unfoldable pub instructionAt : List ℕ → ℕ → ℕ → ℕ → ReadInstruction
 instructionAt b at len maps =
-    pick (sized b at len) (joined (unsignedAt w32 b at) (opcodeOf (fieldsAt b at) maps) (operandsAt Zero b (at + 16) (countAt b at))) I.Broken
+    pick (sized b at len) (joined (unsignedAt w32 b at) (opcodeOf (fieldsIn b at) maps) (operandsAt Zero b (at + 16) (countIn b at))) I.Broken

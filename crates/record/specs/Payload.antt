@@ -3,7 +3,6 @@ use Prim.Native.Nat.{ℕ, _+_}
 use mathlib.Core.Bool.{Bool}
 use mathlib.Core.List.{List}
 use lib.Dec.{eqb, leb}
-use lib.ListN.{length}
 use mir.Syntax.{w16, w32}
 use Rattle.wire.specs.Pick.{pick, both}
 use Rattle.wire.specs.Le.{unsignedAt}
@@ -20,12 +19,8 @@ use Rattle.record.specs.declared.payload.Payload.{Payload}
 use Rattle.record.specs.declared.payload.Payload.the-variants.{Is, Broken}
 
 -- u16 edition, u16 maps, u32 blocks
-unfoldable pub headAt : List ℕ → ℕ → Head
-headAt b at = record { edition = unsignedAt w16 b at; maps = unsignedAt w16 b (at + 2); blocks = unsignedAt w32 b (at + 4) }
-
--- the same; zeros where a head does not lie in b
 unfoldable pub headIn : List ℕ → ℕ → Head
-headIn b at = pick (leb (at + 8) (length b)) (headAt b at) (record { edition = 0; maps = 0; blocks = 0 })
+headIn b at = record { edition = unsignedAt w16 b at; maps = unsignedAt w16 b (at + 2); blocks = unsignedAt w32 b (at + 4) }
 
 -- edition 1, 0 to 64 maps, 0 to 1,024 blocks
 unfoldable pub headOk : Head → Bool
@@ -42,7 +37,7 @@ ofTerminator T.Broken = Broken
 -- the payload of len bytes at a byte, in a unit of so many maps
 unfoldable pub payloadAt : ℕ → List ℕ → ℕ → ℕ → ℕ → Payload
 payloadAt kind b at len maps =
-    pick (eqb kind 1) (pick (both (eqb len 8) (headOk (headAt b at))) (Is (R.Head (headAt b at))) Broken)
+    pick (eqb kind 1) (pick (both (eqb len 8) (headOk (headIn b at))) (Is (R.Head (headIn b at))) Broken)
     (pick (eqb kind 2) (pick (leb len 64) (Is (R.Map at len)) Broken)
     (pick (eqb kind 3) (pick (eqb len 4) (Is (R.Block (unsignedAt w32 b at))) Broken)
     (pick (eqb kind 4) (ofInstruction (instructionAt b at len maps))

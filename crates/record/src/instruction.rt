@@ -6,7 +6,7 @@ use operand::ReadOperands;
 ghost use mathlib.Core.Path.{_≡_};
 ghost use Prim.Native.Nat.{_+_, _≤_};
 ghost use lib.ListN.{length};
-ghost use Rattle.record.specs.Instruction.{fieldsIn, sizedIn, instructionAt};
+ghost use Rattle.record.specs.Instruction.{fieldsWithin, sizedWithin, instructionAt};
 
 pub enum ReadInstruction {
     Is(Instruction),
@@ -14,8 +14,8 @@ pub enum ReadInstruction {
 }
 
 // Whether the payload of len bytes at a byte lies in the bytes, is as long as its operand count asks, and has its zero.
-pub fn sized(s: &[u8], at: usize, len: usize) -> bool
-    ensures { λ r. ⌜ r ≡ sizedIn (now (s .entry)) at len ⌝ }
+pub fn sized_within(s: &[u8], at: usize, len: usize) -> bool
+    ensures { λ r. ⌜ r ≡ sizedWithin (now (s .entry)) at len ⌝ }
 {
     if wire::lies(at, len, s.len()) {
         if len < 16 {
@@ -34,8 +34,8 @@ pub fn sized(s: &[u8], at: usize, len: usize) -> bool
 }
 
 // The four fields of a payload; zeros where it does not lie in the bytes.
-pub fn fields_at(s: &[u8], at: usize) -> Fields
-    ensures { λ r. ⌜ r ≡ fieldsIn (now (s .entry)) at ⌝ }
+pub fn fields_within(s: &[u8], at: usize) -> Fields
+    ensures { λ r. ⌜ r ≡ fieldsWithin (now (s .entry)) at ⌝ }
 {
     if wire::lies(at, 16, s.len()) {
         return Fields {
@@ -58,8 +58,8 @@ pub(crate) fn instruction_at(s: &[u8], at: usize, len: usize, maps: u16) -> Read
     requires { ⌜ at + len ≤ length (now s) ⌝ }
     ensures { λ r. ⌜ r ≡ instructionAt (now (s .entry)) at len maps ⌝ }
 {
-    if sized(s, at, len) {
-        let ReadOpcode::Is(o) = opcode::opcode_of(fields_at(s, at), maps) else {
+    if sized_within(s, at, len) {
+        let ReadOpcode::Is(o) = opcode::opcode_of(fields_within(s, at), maps) else {
             return ReadInstruction::Broken;
         };
         let ReadOperands::Is(list) = operand::operands_at(s, at + 16, s[at + 6]) else {

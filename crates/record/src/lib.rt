@@ -129,7 +129,7 @@ fn kind_due(due: Due, kind: u16) -> bool
 }
 
 // Where the head is due, what is no valid head is 3: by its kind, and by its payload.
-pub fn not_due(due: Due, at: usize) -> Fault
+fn not_due(due: Due, at: usize) -> Fault
     ensures { λ r. ⌜ r ≡ notDue due at ⌝ }
 {
     match due {

@@ -27,21 +27,15 @@ pub fn head_ok(h: Head) -> bool
     false
 }
 
-// A head's numbers; zeros where it does not lie in the bytes.
-fn head_at(s: &[u8], at: usize) -> Head
+// A head's numbers.
+fn head_in(s: &[u8], at: usize) -> Head
+    requires { ⌜ at + 8 ≤ length (now s) ⌝ }
     ensures { λ r. ⌜ r ≡ headIn (now (s .entry)) at ⌝ }
 {
-    if wire::lies(at, 8, s.len()) {
-        return Head {
-            edition: wire::get_u16(s, at),
-            maps: wire::get_u16(s, at + 2),
-            blocks: wire::get_u32(s, at + 4),
-        };
-    }
     Head {
-        edition: 0,
-        maps: 0,
-        blocks: 0,
+        edition: wire::get_u16(s, at),
+        maps: wire::get_u16(s, at + 2),
+        blocks: wire::get_u32(s, at + 4),
     }
 }
 
@@ -53,7 +47,7 @@ pub(crate) fn payload_at(s: &[u8], kind: u16, at: usize, len: usize, maps: u16) 
     match kind {
         1 => {
             if len == 8 {
-                let head = head_at(s, at);
+                let head = head_in(s, at);
                 if head_ok(head) {
                     return Payload::Is(Record::Head(head));
                 }

@@ -11,8 +11,8 @@ pub(crate) fn instruction_ok(s: &[u8], at: usize, len: usize, maps: u16) -> bool
     requires { ⌜ at + len ≤ length (now s) ⌝ }
     ensures { λ r. ⌜ r ≡ isInstruction (instructionAt (now (s .entry)) at len maps) ⌝ }
 {
-    if instruction::sized(s, at, len) {
-        if opcode::opcode_ok(instruction::fields_at(s, at), maps) {
+    if instruction::sized_within(s, at, len) {
+        if opcode::opcode_ok(instruction::fields_within(s, at), maps) {
             return operand::are_operands(s, at + 16, s[at + 6]);
         }
     }

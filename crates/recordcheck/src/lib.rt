@@ -2,13 +2,12 @@
 mod instruction;
 mod terminator;
 
-use record::Due;
 use record::Fault;
 ghost use mathlib.Core.Path.{_≡_};
 ghost use Prim.Native.Nat.{ℕ};
 ghost use Rattle.record.specs.Record.{readRecord};
 ghost use Rattle.record.specs.declared.Due.the-variants as Du;
-ghost use Rattle.recordcheck.specs.Checked.{checkedOf};
+ghost use Rattle.recordcheck.specs.Checked.{checkedOf, checkedBy};
 
 // A record's kind and the byte after it, or the refusal.
 pub enum Checked {
@@ -16,38 +15,37 @@ pub enum Checked {
     Refused(Fault),
 }
 
+// By its kind and the bounds of its length.
+fn check_length(s: &[u8], at: usize, kind: u16, least: usize, most: usize) -> Checked
+    ensures { λ r. ⌜ r ≡ checkedBy (now (s .entry)) at kind least most ⌝ }
+{
+    let len = wire::get_u16(s, at) as usize;
+    if record::whole(s.len(), at, len) {
+        if wire::get_u16(s, at + 2) == kind {
+            if least <= len {
+                if len <= most {
+                    return Checked::Next(kind, at + 4 + len);
+                }
+            }
+            return Checked::Refused(Fault::Broken(at));
+        }
+        return Checked::Refused(Fault::NotDue(at));
+    }
+    Checked::Refused(Fault::Cut(at))
+}
+
 // The answer of `read_record` but for the value, where a map is due. How many maps the unit has is nothing to it.
 pub fn check_map(s: &[u8], at: usize) -> Checked
     ensures { λ r. ⌜ ((maps : ℕ) → r ≡ checkedOf (readRecord (now (s .entry)) at Du.Map maps)) ⌝ }
 {
-    let len = wire::get_u16(s, at) as usize;
-    if record::whole(s.len(), at, len) {
-        if wire::get_u16(s, at + 2) == 2 {
-            if len <= 64 {
-                return Checked::Next(2, at + 4 + len);
-            }
-            return Checked::Refused(Fault::Broken(at));
-        }
-        return Checked::Refused(record::not_due(Due::Map, at));
-    }
-    Checked::Refused(Fault::Cut(at))
+    check_length(s, at, 2, 0, 64)
 }
 
 // The same where a block is due.
 pub fn check_block(s: &[u8], at: usize) -> Checked
     ensures { λ r. ⌜ ((maps : ℕ) → r ≡ checkedOf (readRecord (now (s .entry)) at Du.Block maps)) ⌝ }
 {
-    let len = wire::get_u16(s, at) as usize;
-    if record::whole(s.len(), at, len) {
-        if wire::get_u16(s, at + 2) == 3 {
-            if len == 4 {
-                return Checked::Next(3, at + 8);
-            }
-            return Checked::Refused(Fault::Broken(at));
-        }
-        return Checked::Refused(record::not_due(Due::Block, at));
-    }
-    Checked::Refused(Fault::Cut(at))
+    check_length(s, at, 3, 4, 4)
 }
 
 // The same inside a block, where an instruction or a terminator is due, in a unit of so many maps.
@@ -69,7 +67,7 @@ pub fn check_inside(s: &[u8], at: usize, maps: u16) -> Checked
             }
             return Checked::Refused(Fault::Broken(at));
         }
-        return Checked::Refused(record::not_due(Due::Inside, at));
+        return Checked::Refused(Fault::NotDue(at));
     }
     Checked::Refused(Fault::Cut(at))
 }

@@ -5,9 +5,9 @@ use Prim.Native.Nat.{ℕ, _<_, _^_}
 use native.Mathlib.Omega.{arith}
 use borrow.Author.Tests.{lt-ltb, ltb-true}
 use lib.Signed.{mag}
-use mir.Syntax.{w64}
+use mir.Syntax.{w32, w64}
 use mir.Val.{ofZ}
-use mir.ValLaws.{toZ-ofZ}
+use mir.ValLaws.{toZ-ofZ, toZ-pos}
 use Rattle.ir.specs.Operands.{listOf, pushed}
 use Rattle.ir.specs.declared.BinaryOp.{BinaryOp}
 use Rattle.ir.specs.declared.BinaryOp.the-variants.{Add, Sub, Mul, Div, Mod, Shl, Shr}
@@ -18,8 +18,9 @@ use Rattle.ir.specs.declared.Operand.the-variants.{Var, Immediate}
 use Rattle.ir.specs.declared.operands.Operands.{Operands}
 use Rattle.ir.specs.declared.operands.Operands.the-variants.{Zero, One, Two, Three, Four, Five, Six, Seven, Eight}
 use Rattle.ir.specs.declared.Terminator.the-variants.{Return, Jump, Branch}
-use Rattle.lower.specs.Operand.{fits32}
-use Rattle.opcode.specs.Opcode.{smallOf, mapOk}
+use Rattle.wire.specs.Range.{fits32}
+use Rattle.opcode.specs.Opcode.{fieldsOf as opcodeFields, smallOf, mapOk}
+use Rattle.opcode.proofs.Opcodes.{opcode-written}
 use Rattle.opcode.specs.declared.Fields.{Fields}
 use Rattle.opcode.specs.declared.ReadOpcode.the-variants as RO
 use Rattle.operand.specs.Operand.{onOperand}
@@ -30,11 +31,9 @@ use Rattle.record.specs.Payload.{ofInstruction, ofTerminator}
 use Rattle.record.specs.declared.Record.{Record}
 use Rattle.record.specs.declared.Record.the-variants as R
 use Rattle.record.specs.declared.payload.Payload.the-variants as P
-use Rattle.recordwriter.specs.Bytes.{fieldsOf as opcodeFields}
 use Rattle.recordwriter.specs.Typed.{TypedOperand, TypedOperands, TypedOpcode, Typed}
-use Rattle.recordwriter.proofs.OpcodeBack.{opcode-read}
 use Rattle.recordfields.specs.Fields.{tagOf, valueOf, operandsNumbers, instructionNumbers, terminatorNumbers, recordNumbers, padded, fieldsOf}
-use Rattle.recordfields.specs.Meant.{operandFrom, operandsFrom, opcodeFrom, headFrom, blockFrom, instructionFrom, jumpFrom, branchFrom, terminatorFrom, recordFrom}
+use Rattle.recordfields.specs.Meant.{operandFrom, operandsFrom, opcodeFrom, headFrom, blockFrom, instructionFrom, jumpFrom, branchFrom, terminatorFrom, recordFrom, MapsOk}
 
 -- ---- an opcode
 
@@ -68,8 +67,8 @@ within maps (C.Binary op) h m t = record { code = omega arith; small = small-wit
 within maps (C.CallMap n) h m t = record { code = omega arith; small = omega arith; offset = omega arith; number = t .fits }
 within maps (C.UpdateMap n) h m t = record { code = omega arith; small = omega arith; offset = omega arith; number = t .fits }
 within maps (C.RingBufReserve n size) h m t =
-    let l = ltb-true n maps m in
-    record { code = omega arith; small = omega arith; offset = omega arith; number = t .1 .fits }
+    let few : n < 2 ^ 31 = omega (arith, ltb-true n maps m) in
+    record { code = omega arith; small = omega arith; offset = rw (toZ-pos w32 n few) few; number = t .1 .fits }
 within maps (C.RingBufSubmit n) h m t = record { code = omega arith; small = omega arith; offset = omega arith; number = t .fits }
 
 module _ (maps : ℕ) (o : Opcode) (h : maps < 65536) (m : mapOk maps o ≡ true) (t : TypedOpcode o) where
@@ -79,7 +78,7 @@ module _ (maps : ℕ) (o : Opcode) (h : maps < 65536) (m : mapOk maps o ≡ true
       let g = within maps o h m t in
       let z = opcodeFields o .offset in
       let wide : mag z < 2 ^ 63 = omega (arith, g .offset) in
-      rw (toZ-ofZ w64 z (record { sfits = wide }), lt-ltb _ _ (g .code), lt-ltb _ _ (g .small), lt-ltb (mag z) (2 ^ 31) (g .offset), lt-ltb _ _ (g .number)) (opcode-read maps o m)
+      rw (toZ-ofZ w64 z (record { sfits = wide }), lt-ltb _ _ (g .code), lt-ltb _ _ (g .small), lt-ltb (mag z) (2 ^ 31) (g .offset), lt-ltb _ _ (g .number)) (opcode-written maps o (omega arith) m)
 
 -- ---- operands
 
@@ -102,14 +101,6 @@ module _ (maps result : ℕ) (o : Opcode) (few : result < 2 ^ 32) (same : opcode
   instruction-back (Six a b c d e p) t = rw (lt-ltb result (2 ^ 32) few, same, operand-back a (t .0), operand-back b (t .1 .0), operand-back c (t .1 .1 .0), operand-back d (t .1 .1 .1 .0), operand-back e (t .1 .1 .1 .1 .0), operand-back p (t .1 .1 .1 .1 .1 .0))
   instruction-back (Seven a b c d e p q) t = rw (lt-ltb result (2 ^ 32) few, same, operand-back a (t .0), operand-back b (t .1 .0), operand-back c (t .1 .1 .0), operand-back d (t .1 .1 .1 .0), operand-back e (t .1 .1 .1 .1 .0), operand-back p (t .1 .1 .1 .1 .1 .0), operand-back q (t .1 .1 .1 .1 .1 .1 .0))
   instruction-back (Eight a b c d e p q r) t = rw (lt-ltb result (2 ^ 32) few, same, operand-back a (t .0), operand-back b (t .1 .0), operand-back c (t .1 .1 .0), operand-back d (t .1 .1 .1 .0), operand-back e (t .1 .1 .1 .1 .0), operand-back p (t .1 .1 .1 .1 .1 .0), operand-back q (t .1 .1 .1 .1 .1 .1 .0), operand-back r (t .1 .1 .1 .1 .1 .1 .1 .0))
-
--- in a unit of so many maps
-abbrev pub MapsOk : ℕ → Record → Type 0
-MapsOk maps (R.Head h) = Unit {0}
-MapsOk maps (R.Map start len) = Unit {0}
-MapsOk maps (R.Block id) = Unit {0}
-MapsOk maps (R.Instruction i) = mapOk maps (i .opcode) ≡ true
-MapsOk maps (R.Terminator t) = Unit {0}
 
 pub fields-back : (maps : ℕ) (r : Record) → maps < 65536 → MapsOk maps r → Typed r → recordFrom maps (fieldsOf r) ≡ P.Is r
 unfolding recordFrom headFrom blockFrom jumpFrom branchFrom terminatorFrom fieldsOf recordNumbers terminatorNumbers padded returning branching ofTerminator

@@ -9,7 +9,7 @@ use lib.Seq.{sets}
 use Rattle.ir.specs.Operands.{listOf, firstOf, restOf, pushed}
 use Rattle.ir.specs.declared.Operand.{Operand}
 use Rattle.ir.specs.declared.operands.Operands.{Operands}
-use Rattle.ir.specs.declared.operands.Head.the-variants as H
+use Rattle.ir.specs.declared.operands.Front.the-variants as H
 use Rattle.ir.proofs.OperandLaws.{first-is, first-nothing}
 use Rattle.operand.specs.Operand.{onOperand}
 use Rattle.operand.specs.declared.ReadOperand.the-variants as O

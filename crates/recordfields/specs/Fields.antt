@@ -10,11 +10,10 @@ use Rattle.ir.specs.declared.Operand.{Operand}
 use Rattle.ir.specs.declared.Operand.the-variants.{Var, Immediate}
 use Rattle.ir.specs.declared.Terminator.{Terminator}
 use Rattle.ir.specs.declared.Terminator.the-variants.{Return, Jump, Branch}
+use Rattle.opcode.specs.Opcode.{fieldsOf as opcodeFields}
 use Rattle.opcode.specs.declared.Fields.{Fields}
 use Rattle.record.specs.declared.Record.{Record}
 use Rattle.record.specs.declared.Record.the-variants as R
-use Rattle.recordwriter.specs.Bytes.{fieldsOf as opcodeFields}
-use Rattle.recordfields.specs.declared.numbers.Words.{Words}
 
 -- an operand: tag 0 and the variable, or tag 1 and the immediate
 unfoldable pub tagOf : Operand → ℕ
@@ -28,13 +27,6 @@ valueOf (Immediate z) = ofZ w64 z
 unfoldable pub operandsNumbers : List Operand → List ℕ
 operandsNumbers [] = []
 operandsNumbers (o ∷ os) = tagOf o ∷ valueOf o ∷ operandsNumbers os
-
--- an opcode's number, small, offset and number
-abbrev pub four : ℕ → ℕ → ℕ → ℕ → Words
-four code small offset number = record { code = code; small = small; offset = offset; number = number }
-
-unfoldable pub wordsOf : Fields → Words
-wordsOf f = four (f .code) (f .small) (ofZ w64 (f .offset)) (f .number)
 
 -- kind 4, result, opcode, small, offset, number, operand count, then tag and value of each operand
 unfoldable pub instructionNumbers : ℕ → Fields → List Operand → List ℕ

@@ -1,18 +1,20 @@
 -- Which record 24 numbers mean in a unit of so many maps, or none. Each number must lie within its type; those after the ones that a record uses are not looked at.
 use Prim.Native.Nat.{ℕ, zero, suc, _+_, _^_}
+use mathlib.Core.Bool.{true}
 use mathlib.Core.List.{List}
+use mathlib.Core.Path.{_≡_}
 use lib.Dec.{eqb, leb, ltb}
 use lib.ListN.{getD}
 use mir.Syntax.{w64}
 use mir.Val.{toZ}
 use Rattle.wire.specs.Pick.{pick, both}
+use Rattle.wire.specs.Range.{fits32}
 use Rattle.ir.specs.Operands.{pushed}
 use Rattle.ir.specs.declared.Operand.the-variants.{Var, Immediate}
 use Rattle.ir.specs.declared.operands.Operands.{Operands}
 use Rattle.ir.specs.declared.operands.Operands.the-variants.{Zero}
 use Rattle.ir.specs.declared.Terminator.the-variants.{Jump}
-use Rattle.lower.specs.Operand.{fits32}
-use Rattle.opcode.specs.Opcode.{opcodeOf}
+use Rattle.opcode.specs.Opcode.{mapOk, opcodeOf}
 use Rattle.opcode.specs.declared.ReadOpcode.{ReadOpcode}
 use Rattle.opcode.specs.declared.ReadOpcode.the-variants as C
 use Rattle.operand.specs.Operand.{onOperand}
@@ -23,6 +25,7 @@ use Rattle.operand.specs.declared.ReadOperands.the-variants as L
 use Rattle.record.specs.Instruction.{joined}
 use Rattle.record.specs.Terminator.{returning, branching}
 use Rattle.record.specs.Payload.{ofInstruction, ofTerminator}
+use Rattle.record.specs.declared.Record.{Record}
 use Rattle.record.specs.declared.Record.the-variants as R
 use Rattle.record.specs.declared.payload.Payload.{Payload}
 use Rattle.record.specs.declared.payload.Payload.the-variants.{Is, Broken}
@@ -81,3 +84,11 @@ recordFrom maps fs =
     (pick (eqb (at fs 0) 3) (blockFrom (at fs 1))
     (pick (eqb (at fs 0) 4) (instructionFrom maps fs)
     (pick (eqb (at fs 0) 5) (terminatorFrom fs) Broken))))
+
+-- a record's map, if it has one, is one of so many
+abbrev pub MapsOk : ℕ → Record → Type 0
+MapsOk maps (R.Head h) = Unit {0}
+MapsOk maps (R.Map start len) = Unit {0}
+MapsOk maps (R.Block id) = Unit {0}
+MapsOk maps (R.Instruction i) = mapOk maps (i .opcode) ≡ true
+MapsOk maps (R.Terminator t) = Unit {0}

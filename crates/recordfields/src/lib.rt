@@ -1,4 +1,3 @@
 // A record's value as 24 numbers, and back.
 pub mod meant;
 pub mod numbers;
-pub mod word;

@@ -1,5 +1,4 @@
 // Which record 24 numbers mean. Numbers after those that a record uses are not looked at.
-use crate::word::sign64;
 use ir::Instruction;
 use ir::Operand;
 use ir::Terminator;
@@ -12,6 +11,8 @@ use operand::ReadOperands;
 use record::Head;
 use record::Record;
 use record::payload::Payload;
+use wire::range::fits32;
+use wire::sign64;
 ghost use mathlib.Core.Path.{_≡_};
 ghost use Prim.Native.Nat.{_≤_};
 ghost use lib.ListN.{getD};
@@ -73,24 +74,21 @@ fn opcode_from(code: u64, small: u64, offset: u64, number: u64, maps: u16) -> Re
     if 255 < small {
         return ReadOpcode::Broken;
     }
-    if z < -2147483648 {
-        return ReadOpcode::Broken;
-    }
-    if z > 2147483647 {
-        return ReadOpcode::Broken;
-    }
     if 4294967295 < number {
         return ReadOpcode::Broken;
     }
-    opcode::opcode_of(
-        Fields {
-            code: code as u8,
-            small: small as u8,
-            offset: z as i32,
-            number: number as u32,
-        },
-        maps,
-    )
+    if fits32(z) {
+        return opcode::opcode_of(
+            Fields {
+                code: code as u8,
+                small: small as u8,
+                offset: z as i32,
+                number: number as u32,
+            },
+            maps,
+        );
+    }
+    ReadOpcode::Broken
 }
 
 fn head_from(edition: u64, maps: u64, blocks: u64) -> Payload
@@ -152,10 +150,10 @@ fn jump_from(target: u64) -> Payload
 fn return_from(o: ReadOperand) -> Payload
     ensures { λ r. ⌜ r ≡ ofTerminator (returning o) ⌝ }
 {
-    match o {
-        ReadOperand::Is(o) => Payload::Is(Record::Terminator(Terminator::Return(o))),
-        ReadOperand::Broken => Payload::Broken,
-    }
+    let ReadOperand::Is(o) = o else {
+        return Payload::Broken;
+    };
+    Payload::Is(Record::Terminator(Terminator::Return(o)))
 }
 
 fn branch_from(o: ReadOperand, to: u64, other: u64) -> Payload
@@ -167,14 +165,14 @@ fn branch_from(o: ReadOperand, to: u64, other: u64) -> Payload
     if 4294967295 < other {
         return Payload::Broken;
     }
-    match o {
-        ReadOperand::Is(o) => Payload::Is(Record::Terminator(Terminator::Branch {
-            condition: o,
-            true_block: to as u32,
-            false_block: other as u32,
-        })),
-        ReadOperand::Broken => Payload::Broken,
-    }
+    let ReadOperand::Is(o) = o else {
+        return Payload::Broken;
+    };
+    Payload::Is(Record::Terminator(Terminator::Branch {
+        condition: o,
+        true_block: to as u32,
+        false_block: other as u32,
+    }))
 }
 
 fn terminator_from(fields: &[u64]) -> Payload

@@ -1,21 +1,20 @@
 // A record's value as numbers, padded with zeros to 24.
-use crate::word::bits64;
 use ir::Instruction;
-use ir::Opcode;
 use ir::Operand;
 use ir::Terminator;
 use ir::operands;
-use ir::operands::Head;
+use ir::operands::Front;
 use ir::operands::Operands;
 use record::Record;
+use wire::bits64;
 ghost use mathlib.Core.Path.{_≡_};
 ghost use mathlib.Core.List.{[], _∷_};
 ghost use Prim.Native.Nat.{_+_, _*_, _≤_};
 ghost use lib.ListN.{length};
 ghost use lib.Seq.{sets};
 ghost use Rattle.ir.specs.Operands.{listOf};
-ghost use Rattle.recordwriter.specs.Bytes.{fieldsOf as opcodeFields};
-ghost use Rattle.recordfields.specs.Fields.{tagOf, valueOf, operandsNumbers, four, wordsOf, padded, terminatorNumbers, instructionNumbers, fieldsOf};
+ghost use Rattle.opcode.specs.Opcode.{fieldsOf as opcodeFields};
+ghost use Rattle.recordfields.specs.Fields.{tagOf, valueOf, operandsNumbers, padded, terminatorNumbers, instructionNumbers, fieldsOf};
 
 fn tag(o: Operand) -> u64
     ensures { λ r. ⌜ r ≡ tagOf o ⌝ }
@@ -43,51 +42,13 @@ fn put_operands(fields: &mut [u64], at: usize, list: Operands)
     let mut left = list;
     let mut i = at;
     loop {
-        let Head::Is(o) = operands::first(left) else {
+        let Front::Is(o) = operands::first(left) else {
             return;
         };
         fields[i] = tag(o);
         fields[i + 1] = value(o);
         left = operands::rest(left);
         i = i + 2;
-    }
-}
-
-// An opcode's number, small, offset and number.
-pub struct Words {
-    pub code: u64,
-    pub small: u64,
-    pub offset: u64,
-    pub number: u64,
-}
-
-fn four(code: u64, small: u64, offset: u64, number: u64) -> Words
-    ensures { λ r. ⌜ r ≡ four code small offset number ⌝ }
-{
-    Words {
-        code,
-        small,
-        offset,
-        number,
-    }
-}
-
-fn opcode_words(o: Opcode) -> Words
-    ensures { λ r. ⌜ r ≡ wordsOf (opcodeFields o) ⌝ }
-{
-    match o {
-        Opcode::HelperCall { id } => four(1, 0, 0, id as u64),
-        Opcode::LoadKey => four(2, 0, 0, 0),
-        Opcode::Store { size } => four(3, size as u64, 0, 0),
-        Opcode::LoadCtx { offset, size } => four(4, size as u64, bits64(offset as i64), 0),
-        Opcode::LoadPacket { offset, size } => four(5, size as u64, bits64(offset as i64), 0),
-        Opcode::CopyCtxToMem { offset, size } => four(6, 0, bits64(offset as i64), size as u64),
-        Opcode::NullCheck => four(7, 0, 0, 0),
-        Opcode::Binary { op } => four(8, opcode::small_of(op) as u64, 0, 0),
-        Opcode::CallMap { map } => four(9, 0, 0, map as u64),
-        Opcode::UpdateMap { map } => four(10, 0, 0, map as u64),
-        Opcode::RingBufReserve { map, size } => four(11, 0, map as u64, size as u64),
-        Opcode::RingBufSubmit { map } => four(12, 0, 0, map as u64),
     }
 }
 
@@ -128,15 +89,15 @@ fn instruction_fields(i: Instruction) -> [u64; 24]
 {
     let o = i.opcode;
     let list = i.operands;
-    let w = opcode_words(o);
+    let f = opcode::fields_of(o);
     let count = operands::count(list);
     let mut fields = padded(
         4,
         i.result as u64,
-        w.code,
-        w.small,
-        w.offset,
-        w.number,
+        f.code as u64,
+        f.small as u64,
+        bits64(f.offset as i64),
+        f.number as u64,
         count as u64,
     );
     put_operands(&mut fields, 7, list);

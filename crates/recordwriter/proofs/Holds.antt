@@ -8,8 +8,8 @@ use lib.ListN.{length, getD, take, drop, length-append, take-append-drop}
 use lib.Seq.{drop-drop, take-add, take-take, take-append-seam, drop-append-seam, drop-at, take-at, length-take-le, drop-cons}
 use mir.Syntax.{Width}
 use mir.Val.{Fits, SFits}
-use Rattle.wire.specs.Le.{octets, unsignedAt, signedAt, unsignedBytes, signedBytes}
-use Rattle.wire.proofs.Le.{Bytes, unsigned-length, signed-length, unsigned-of-bytes, signed-of-bytes, bytes-of-unsigned, bytes-of-signed}
+use Rattle.wire.specs.Le.{octets, Bytes, unsignedAt, signedAt, unsignedBytes, signedBytes}
+use Rattle.wire.proofs.Le.{unsigned-length, signed-length, unsigned-of-bytes, signed-of-bytes, bytes-of-unsigned, bytes-of-signed}
 
 -- the k bytes v stand at i in b
 pub record Holds (b : List ℕ) (i k : ℕ) (v : List ℕ) : Type 0 where

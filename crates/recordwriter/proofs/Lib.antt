@@ -2,7 +2,6 @@ pub mod Length
 pub mod Pieces
 pub mod Valid
 pub mod Holds
-pub mod OpcodeBack
 pub mod ReadBack
 pub mod WriteBack
 pub mod RoundTrip

@@ -2,13 +2,14 @@
 use mathlib.Core.Path.{_≡_, refl, sym, ap, _∙_}
 use mathlib.Core.Bool.{true}
 use mathlib.Core.List.{List, [], _∷_, _++_, append-nil, append-assoc}
-use Prim.Native.Nat.{ℕ, suc, _+_, _*_, _<_}
+use Prim.Native.Nat.{ℕ, suc, _+_, _*_, _^_, _<_}
 use native.Mathlib.Nat.{add-assoc}
 use native.Mathlib.Omega.{arith}
 use borrow.Author.Tests.{eq-eqb, le-leb, ltb-true}
 use lib.ListN.{length, getD, length-append}
 use mir.Syntax.{w16, w32, w64}
 use mir.Val.{Fits, SFits}
+use mir.ValLaws.{toZ-pos}
 use Rattle.wire.specs.Le.{unsignedAt, unsignedBytes, signedBytes}
 use Rattle.wire.proofs.Le.{unsigned-length, signed-length}
 use Rattle.ir.specs.Operands.{listOf, pushed}
@@ -24,9 +25,9 @@ use Rattle.ir.specs.declared.operands.Operands.the-variants.{Zero}
 use Rattle.ir.proofs.OperandLaws.{at-most-eight, pushed-last, listOf-injective}
 use Rattle.operand.specs.Operand.{operandAt, onOperand, operandsAt, operandBytes, operandsBytes}
 use Rattle.operand.proofs.OperandBytes.{operand-length}
-use Rattle.record.specs.Instruction.{fieldsAt, countAt, sized, joined, instructionAt}
+use Rattle.record.specs.Instruction.{fieldsIn, countIn, sized, joined, instructionAt}
 use Rattle.record.specs.Terminator.{returning, branching, terminatorAt}
-use Rattle.record.specs.Payload.{headAt, ofInstruction, ofTerminator, payloadAt, kindOf}
+use Rattle.record.specs.Payload.{headIn, ofInstruction, ofTerminator, payloadAt, kindOf}
 use Rattle.record.specs.Frame.{wholeAt, nextAt}
 use Rattle.record.specs.Record.{kindDue, onPayload, readRecord}
 use Rattle.opcode.specs.declared.Fields.{Fields}
@@ -40,15 +41,15 @@ use Rattle.record.specs.declared.instruction.ReadInstruction.the-variants as I
 use Rattle.record.specs.declared.terminator.ReadTerminator.the-variants as T
 use Rattle.record.specs.declared.payload.Payload.the-variants as P
 use Rattle.payloadwriter.specs.Payloads.{instructionBytes, terminatorBytes}
-use Rattle.recordwriter.specs.Bytes.{fieldsOf, payloadBytes, recordBytes}
+use Rattle.recordwriter.specs.Bytes.{payloadBytes, recordBytes}
 use Rattle.recordwriter.specs.Written.{valid}
-use Rattle.opcode.specs.Opcode.{mapOk}
+use Rattle.opcode.specs.Opcode.{fieldsOf, mapOk}
+use Rattle.opcode.proofs.Opcodes.{opcode-written}
 use Rattle.recordwriter.specs.Typed.{TypedOperand, TypedOperands, TypedOpcode, TypedTerminator, Typed, dueOf, placed}
 use Rattle.payloadwriter.proofs.Lengths.{instruction-length, return-length, jump-length, branch-length}
 use Rattle.recordwriter.proofs.Length.{head-length, part-length, record-length}
 use Rattle.recordwriter.proofs.Valid.{name-told, payload-small}
 use Rattle.recordwriter.proofs.Holds.{Holds, stands, first, second, byte-there, unsigned-there, signed-there}
-use Rattle.recordwriter.proofs.OpcodeBack.{opcode-read}
 
 -- ---- the fields of an opcode fit theirs
 
@@ -80,7 +81,7 @@ offset-fits maps C.NullCheck h f e = record { sfits = omega arith }
 offset-fits maps (C.Binary op) h f e = record { sfits = omega arith }
 offset-fits maps (C.CallMap m) h f e = record { sfits = omega arith }
 offset-fits maps (C.UpdateMap m) h f e = record { sfits = omega arith }
-offset-fits maps (C.RingBufReserve m size) h f e = record { sfits = omega (arith, ltb-true m maps e) }
+offset-fits maps (C.RingBufReserve m size) h f e = let few : m < 2 ^ 31 = omega (arith, ltb-true m maps e) in rw (toZ-pos w32 m few) (record { sfits = few })
 offset-fits maps (C.RingBufSubmit m) h f e = record { sfits = omega arith }
 
 -- ---- the kind of a record is the one due
@@ -154,13 +155,13 @@ module _ (b : List ℕ) where
     module _ (u : Fits w32 result) (z : SFits w32 (f .offset)) (v : Fits w32 (f .number)) where
       pub record Parts : Type 0 where
         pub result-there : unsignedAt w32 b at ≡ result
-        pub fields-there : fieldsAt b at ≡ f
-        pub count-there : countAt b at ≡ length os
+        pub fields-there : fieldsIn b at ≡ f
+        pub count-there : countIn b at ≡ length os
         pub zero-there : getD b (at + 7) 0 ≡ 0
         pub operands-there : Holds b (at + 16) (length (operandsBytes os)) (operandsBytes os)
 
       instruction-parts : Parts
-      unfolding instructionBytes fieldsAt countAt
+      unfolding instructionBytes fieldsIn countIn
       instruction-parts =
           let a = unsignedBytes w32 result in
           let m = f .code ∷ f .small ∷ length os ∷ 0 ∷ [] in
@@ -188,7 +189,7 @@ module _ (b : List ℕ) where
       let parts = instruction-parts (i .result) (fieldsOf (i .opcode)) os h (t .0) (offset-fits maps (i .opcode) m (t .1) e) (number-fits (i .opcode) (t .1)) in
       let l : n ≡ 16 + 9 * length os = sym (h .size) ∙ instruction-length (i .result) (fieldsOf (i .opcode)) os in
       rw (l, parts .count-there, parts .zero-there, le-leb 16 (16 + 9 * length os) (omega arith), le-leb (length os) 8 (at-most-eight (i .operands)), eq-eqb (16 + 9 * length os) (16 + 9 * length os) refl)
-      (rw (parts .result-there, parts .fields-there, opcode-read maps (i .opcode) e, operands-read Zero (i .operands) os refl (t .2) (parts .operands-there)))
+      (rw (parts .result-there, parts .fields-there, opcode-written maps (i .opcode) (omega (arith, m)) e, operands-read Zero (i .operands) os refl (t .2) (parts .operands-there)))
 
   -- ---- terminators
 
@@ -213,8 +214,8 @@ module _ (b : List ℕ) where
 
   -- ---- payloads
 
-  head-there : {at n : ℕ} (names : List ℕ) (h : Head) → Typed (R.Head h) → Holds b at n (payloadBytes names (R.Head h)) → headAt b at ≡ h
-  unfolding headAt payloadBytes
+  head-there : {at n : ℕ} (names : List ℕ) (h : Head) → Typed (R.Head h) → Holds b at n (payloadBytes names (R.Head h)) → headIn b at ≡ h
+  unfolding headIn payloadBytes
   head-there names h f g =
       let e = unsignedBytes w16 (h .edition) in
       let m = unsignedBytes w16 (h .maps) in

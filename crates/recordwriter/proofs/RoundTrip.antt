@@ -10,8 +10,7 @@ use lib.ListN.{length, take, drop}
 use mir.Syntax.{w16}
 use mir.Val.{Fits}
 use Rattle.wire.specs.Pick.{pick}
-use Rattle.wire.specs.Le.{store}
-use Rattle.wire.proofs.Le.{Bytes}
+use Rattle.wire.specs.Le.{Bytes, store}
 use Rattle.wire.proofs.Store.{store-parts}
 use Rattle.record.specs.Record.{readRecord}
 use Rattle.record.specs.declared.Due.{Due}

@@ -4,8 +4,8 @@ use mathlib.Core.Bool.{Bool, true, false, true≢false}
 use mathlib.Core.List.{List}
 use Prim.Native.Nat.{ℕ, _+_, _≤_}
 use native.Mathlib.Omega.{arith}
-use borrow.Author.Tests.{leb-true, ltb-true, lt-ltb}
-use lib.Dec.{leb, ltb}
+use borrow.Author.Tests.{leb-true}
+use lib.Dec.{leb}
 use lib.ListN.{length}
 use mir.Syntax.{w32}
 use Rattle.wire.specs.Pick.{pick, both}
@@ -13,18 +13,22 @@ use Rattle.wire.proofs.Le.{unsigned-length}
 use Rattle.ir.specs.Operands.{listOf}
 use Rattle.ir.specs.declared.Terminator.the-variants.{Return, Jump, Branch}
 use Rattle.ir.proofs.OperandLaws.{at-most-eight}
-use Rattle.ir.specs.declared.Opcode.{Opcode}
-use Rattle.ir.specs.declared.Opcode.the-variants as C
 use Rattle.record.specs.declared.Record.{Record}
 use Rattle.record.specs.declared.Record.the-variants as R
-use Rattle.recordwriter.specs.Bytes.{fieldsOf, payloadBytes}
+use Rattle.recordwriter.specs.Bytes.{payloadBytes}
 use Rattle.recordwriter.specs.Written.{valid}
-use Rattle.opcode.specs.Opcode.{mapOk}
+use Rattle.opcode.specs.Opcode.{fieldsOf}
+use Rattle.opcode.proofs.Opcodes.{map-more}
 use Rattle.recordwriter.specs.Size.{sizeOf}
 use Rattle.recordwriter.specs.declared.size.Size.{Size}
 use Rattle.recordwriter.specs.declared.size.Size.the-variants.{Bytes, Broken}
 use Rattle.payloadwriter.proofs.Lengths.{instruction-length, return-length, jump-length, branch-length}
 use Rattle.recordwriter.proofs.Length.{head-length, part-length}
+
+-- a choice has a property where each side has it that can come
+pub either : {A : Type 0} (Q : A → Type 0) (t : Bool) (x y : A) → (t ≡ true → Q x) → (t ≡ false → Q y) → Q (pick t x y)
+either Q true x y f g = f refl
+either Q false x y f g = g refl
 
 pub both-left : (x y : Bool) → both x y ≡ true → x ≡ true
 both-left true y e = refl
@@ -59,30 +63,12 @@ size-broken maps names r e f = rw (sym e ∙ f) at (told maps names r)
 
 -- what is valid in a unit of few maps is valid in one of more
 module _ {few more : ℕ} (h : few ≤ more) where
-  below : (m : ℕ) → ltb m few ≡ true → ltb m more ≡ true
-  below m e = lt-ltb m more (omega (arith, ltb-true m few e))
-
-  map-more : (o : Opcode) → mapOk few o ≡ true → mapOk more o ≡ true
-  unfolding mapOk
-  map-more (C.HelperCall id) e = refl
-  map-more C.LoadKey e = refl
-  map-more (C.Store size) e = refl
-  map-more (C.LoadCtx offset size) e = refl
-  map-more (C.LoadPacket offset size) e = refl
-  map-more (C.CopyCtxToMem offset size) e = refl
-  map-more C.NullCheck e = refl
-  map-more (C.Binary op) e = refl
-  map-more (C.CallMap m) e = below m e
-  map-more (C.UpdateMap m) e = below m e
-  map-more (C.RingBufReserve m size) e = below m e
-  map-more (C.RingBufSubmit m) e = below m e
-
   pub valid-more : (names : List ℕ) (r : Record) → valid few names r ≡ true → valid more names r ≡ true
   unfolding valid
   valid-more names (R.Head x) e = e
   valid-more names (R.Map start len) e = e
   valid-more names (R.Block id) e = refl
-  valid-more names (R.Instruction i) e = map-more (i .opcode) e
+  valid-more names (R.Instruction i) e = map-more h (i .opcode) e
   valid-more names (R.Terminator t) e = refl
 
 -- a valid record is short

@@ -9,8 +9,7 @@ use lib.Dec.{eqb, leb}
 use lib.ListN.{length, getD, take, drop, length-append}
 use mir.Syntax.{w16, w32, w64}
 use Rattle.wire.specs.Pick.{pick, both}
-use Rattle.wire.specs.Le.{unsignedAt}
-use Rattle.wire.proofs.Le.{Bytes}
+use Rattle.wire.specs.Le.{Bytes, unsignedAt}
 use Rattle.ir.specs.Operands.{listOf, pushed}
 use Rattle.ir.specs.declared.Operand.{Operand}
 use Rattle.ir.specs.declared.Instruction.{Instruction}
@@ -18,11 +17,12 @@ use Rattle.ir.specs.declared.Terminator.{Terminator}
 use Rattle.ir.specs.declared.operands.Operands.{Operands}
 use Rattle.ir.specs.declared.operands.Operands.the-variants.{Zero}
 use Rattle.ir.proofs.OperandLaws.{pushed-last}
-use Rattle.opcode.specs.Opcode.{mapOk, opcodeOf}
+use Rattle.opcode.specs.Opcode.{fieldsOf, mapOk, opcodeOf}
+use Rattle.opcode.proofs.Opcodes.{opcode-has}
 use Rattle.operand.specs.Operand.{operandAt, onOperand, operandsAt, operandBytes, operandsBytes}
-use Rattle.record.specs.Instruction.{fieldsAt, countAt, sized, joined, instructionAt}
+use Rattle.record.specs.Instruction.{fieldsIn, countIn, sized, joined, instructionAt}
 use Rattle.record.specs.Terminator.{returning, branching, terminatorAt}
-use Rattle.record.specs.Payload.{headAt, headOk, ofInstruction, ofTerminator, payloadAt, kindOf}
+use Rattle.record.specs.Payload.{headIn, headOk, ofInstruction, ofTerminator, payloadAt, kindOf}
 use Rattle.record.specs.Frame.{lengthAt, kindAt, nextAt}
 use Rattle.record.specs.Record.{readRecord}
 use Rattle.record.specs.declared.Due.{Due}
@@ -43,13 +43,12 @@ use Rattle.record.specs.declared.payload.Payload.{Payload}
 use Rattle.record.specs.declared.payload.Payload.the-variants as P
 use Rattle.record.proofs.RecordLaws.{record-taken}
 use Rattle.payloadwriter.specs.Payloads.{instructionBytes, terminatorBytes}
-use Rattle.recordwriter.specs.Bytes.{fieldsOf, payloadBytes, recordBytes}
+use Rattle.recordwriter.specs.Bytes.{payloadBytes, recordBytes}
 use Rattle.recordwriter.specs.Written.{valid}
 use Rattle.recordwriter.proofs.Length.{part-length}
 use Rattle.payloadwriter.proofs.Pieces.{instruction-pieces}
-use Rattle.recordwriter.proofs.Valid.{both-left, both-right}
+use Rattle.recordwriter.proofs.Valid.{either, both-left, both-right}
 use Rattle.recordwriter.proofs.Holds.{Holds, turned, _▹_, byte-holds, unsigned-holds, signed-holds}
-use Rattle.recordwriter.proofs.OpcodeBack.{either, opcode-written}
 
 module _ (b : List ℕ) (bytes : Bytes b) where
   -- ---- operands
@@ -128,26 +127,26 @@ module _ (b : List ℕ) (bytes : Bytes b) where
   module _ (at len maps : ℕ) (room : at + len ≤ length b) where
     -- the tests of a payload's size
     record Right : Type 0 where
-      few : countAt b at ≤ 8
-      exact : 16 + 9 * countAt b at ≡ len
+      few : countIn b at ≤ 8
+      exact : 16 + 9 * countIn b at ≡ len
       zeroed : getD b (at + 7) 0 ≡ 0
 
     right : sized b at len ≡ true → Right
     unfolding sized
     right e =
         let one = both-right (leb 16 len) _ e in
-        let two = both-right (leb (countAt b at) 8) _ one in
+        let two = both-right (leb (countIn b at) 8) _ one in
         record {
-          few = leb-true _ _ (both-left _ (both (eqb len (16 + 9 * countAt b at)) (eqb (getD b (at + 7) 0) 0)) one);
+          few = leb-true _ _ (both-left _ (both (eqb len (16 + 9 * countIn b at)) (eqb (getD b (at + 7) 0) 0)) one);
           exact = sym (eqb-true _ _ (both-left _ (eqb (getD b (at + 7) 0) 0) two));
-          zeroed = eqb-true _ _ (both-right (eqb len (16 + 9 * countAt b at)) _ two);
+          zeroed = eqb-true _ _ (both-right (eqb len (16 + 9 * countIn b at)) _ two);
         }
 
-    joined-written : Right → (x : ReadOpcode) (y : ReadOperands) → opcodeOf (fieldsAt b at) maps ≡ x → operandsAt Zero b (at + 16) (countAt b at) ≡ y → OneInstruction at len maps (joined (unsignedAt w32 b at) x y)
-    unfolding joined fieldsAt countAt listOf
+    joined-written : Right → (x : ReadOpcode) (y : ReadOperands) → opcodeOf (fieldsIn b at) maps ≡ x → operandsAt Zero b (at + 16) (countIn b at) ≡ y → OneInstruction at len maps (joined (unsignedAt w32 b at) x y)
+    unfolding joined fieldsIn countIn listOf
     joined-written t (C.Is o) (L.Is l) p q =
-        let same = opcode-written (fieldsAt b at) maps o p in
-        let more = operands-written (countAt b at) (at + 16) Zero l (omega (arith, t .exact)) (omega (arith, t .few)) q in
+        let same = opcode-has (fieldsIn b at) maps o p in
+        let more = operands-written (countIn b at) (at + 16) Zero l (omega (arith, t .exact)) (omega (arith, t .few)) q in
         let pieces =
         unsigned-holds w32 b at bytes (omega (arith, t .exact)) refl
         ▹ byte-holds b (at + 4) (omega (arith, t .exact)) (ap (λ (f : Fields). f .code) (sym (same .fields)))
@@ -244,11 +243,11 @@ module _ (b : List ℕ) (bytes : Bytes b) where
     of-terminator k T.Broken p = nothing
 
     one-payload : OnePayload kind at len maps (payloadAt kind b at len maps)
-    unfolding payloadAt kindOf payloadBytes valid headAt
+    unfolding payloadAt kindOf payloadBytes valid headIn
     one-payload =
-        case 1 (λ k. either (OnePayload kind at len maps) (both (eqb len 8) (headOk (headAt b at))) _ _
+        case 1 (λ k. either (OnePayload kind at len maps) (both (eqb len 8) (headOk (headIn b at))) _ _
         (λ e.
-        let n : 8 ≡ len = sym (eqb-true _ _ (both-left _ (headOk (headAt b at)) e)) in
+        let n : 8 ≡ len = sym (eqb-true _ _ (both-left _ (headOk (headIn b at)) e)) in
         record {
           payload = record {
             due = k;

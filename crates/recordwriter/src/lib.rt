@@ -1,5 +1,4 @@
 // One record of the unit file, written.
-mod fields;
 mod put;
 mod size;
 

@@ -1,5 +1,4 @@
 // A record's bytes, written where the caller has found room for them.
-use crate::fields::fields;
 use ir::Instruction;
 use record::Head;
 use record::Record;
@@ -10,16 +9,14 @@ ghost use Prim.Native.Nat.{_+_, _≤_};
 ghost use lib.ListN.{length, take, drop};
 ghost use Rattle.wire.specs.Le.{store};
 ghost use Rattle.recordwriter.specs.Bytes.{payloadBytes, recordBytes};
-ghost use Rattle.opcode.specs.Opcode.{mapOk};
 ghost use Rattle.recordwriter.specs.Written.{valid};
 
 fn put_instruction(b: &mut [u8], i: Instruction)
-    requires { ⌜ mapOk 65536 (i .opcode) ≡ true ⌝ }
     ensures { λ _. ⌜ now (b .exit) ≡ store (now (b .entry)) 4 (payloadBytes [] (Record.Instruction i)) ⌝ }
 {
     let o = i.opcode;
     let list = i.operands;
-    payloadwriter::put_instruction(b, 4, i.result, fields(o), list);
+    payloadwriter::put_instruction(b, 4, i.result, opcode::fields_of(o), list);
 }
 
 fn put_name(b: &mut [u8], at: usize, names: &[u8], start: usize, len: usize)

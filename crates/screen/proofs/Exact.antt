@@ -1,29 +1,19 @@
 -- The screen says yes exactly where there is no fault.
 use mathlib.Core.Path.{_≡_, refl}
-use mathlib.Core.Bool.{true}
 use mathlib.Core.Logic.{_↔_}
 use mathlib.Core.List.{List}
-use Prim.Native.Nat.{ℕ, _≤_, _<_}
+use Prim.Native.Nat.{ℕ, _≤_}
 use native.Mathlib.Omega.{arith}
 use lib.ListN.{length}
 use Rattle.shape.specs.Code.{slots}
-use Rattle.shape.specs.Shapes.{lengthOk, judged}
-use Rattle.shape.specs.declared.Shapes.the-variants as Ss
 use Rattle.shape.proofs.Judged.{judged-fine}
-use Rattle.paths.specs.Way.{Passes}
 use Rattle.paths.specs.Readable.{Filled}
 use Rattle.screen.specs.declared.Verdict.{Verdict}
 use Rattle.screen.specs.declared.Verdict.the-variants.{Yes}
-use Rattle.screen.specs.Verdict.{Before, fine, refused, beforePaths, Clear, Judged, passed, unreadable, past, ScreenedAfter, Screened}
+use Rattle.screen.specs.Verdict.{Before, fine, refused, beforePaths, Judged, passed, unreadable, past, ScreenedAfter, Screened}
+use Rattle.screen.specs.Faultless.{NoPathFault, NoFault}
 use Rattle.screen.proofs.Before.{parts, whole}
 use Rattle.screen.proofs.OneAnswer.{one-verdict}
-
--- no instruction reads a register that some path there lacks, and no path passes the last slot
-abbrev pub NoPathFault : List ℕ → Type 0
-NoPathFault b = ((s : ℕ) → s < slots b → Clear b s) × (Passes b → ⊥)
-
-abbrev pub NoFault : List ℕ → List ℕ → Type 0
-NoFault b l = (lengthOk b ≡ true) × ((judged b l ≡ Ss.Fine) × NoPathFault b)
 
 yes-parts : (b : List ℕ) {v : Verdict} → Judged b v → v ≡ Yes → NoPathFault b
 yes-parts b (passed c p) e = (c, p)

@@ -3,3 +3,4 @@ pub mod Low
 pub mod Pass
 pub mod OneAnswer
 pub mod Exact
+pub mod Table

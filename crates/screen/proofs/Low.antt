@@ -1,12 +1,12 @@
 -- Where the shape is fine no instruction reads a register above 10, and the second slot of a wide load reads none.
 use mathlib.Core.Path.{_≡_, refl, sym}
 use mathlib.Core.Bool.{Bool, true, false, true≢false}
-use mathlib.Core.Logic.{_⊎_, inl, inr, ⊎-elim}
+use mathlib.Core.Logic.{⊎-elim}
 use mathlib.Core.List.{List}
 use Prim.Native.Nat.{ℕ, zero, suc, _≤_, _<_}
 use native.Mathlib.Omega.{arith}
 use lib.Dec.{eqb, leb, ltb}
-use lib.IntN.{ℤ, pos, negsuc}
+use lib.IntN.{ℤ}
 use borrow.Author.Tests.{leb-true, eqb-true}
 use Rattle.wire.specs.Pick.{pick, both, either, isZero}
 use Rattle.insn.specs.declared.Insn.{Insn}
@@ -14,44 +14,29 @@ use Rattle.insn.specs.declared.form.Form.{Form}
 use Rattle.insn.specs.declared.form.Form.the-variants.{NoForm, WideLoad, Ldx, Stx, AluImm, AluReg, MovImm, MovReg, Ja, JeqImm, JneImm, Call, Exit}
 use Rattle.insn.specs.Rfc.{sizeField}
 use Rattle.insn.specs.Form.{formOf}
+use Rattle.insn.specs.Helper.{helperOf, arguments}
+use Rattle.insn.proofs.Helpers.{at-most-four}
 use Rattle.shape.specs.Code.{slots, at, formAt, wide, start}
 use Rattle.shape.specs.Fields.{uses}
 use Rattle.shape.specs.Shape.{allZero, known, shapeAt}
 use Rattle.shape.specs.declared.Shape.the-variants as S
 use Rattle.shape.proofs.Lengths.{length-parts, length-slots}
-use Rattle.shape.proofs.Judged.{EachFine, judged-fine}
+use Rattle.shape.specs.Fine.{EachFine}
+use Rattle.shape.proofs.Tests.{both-true, either-true}
+use Rattle.shape.proofs.Judged.{judged-fine}
 use Rattle.shape.proofs.Rules.{fine-rules, dst-most, src-most, wide-form}
-use Rattle.paths.specs.Registers.{arguments, argument, reads}
+use Rattle.paths.specs.Registers.{argument, reads}
 use Rattle.screen.specs.Parts.{Apt}
 use Rattle.screen.specs.Verdict.{fine, beforePaths}
 use Rattle.screen.proofs.Before.{parts}
 
--- ---- tests
-
-both-true : (x y : Bool) → both x y ≡ true → (x ≡ true) × (y ≡ true)
-both-true true y e = (refl, e)
-both-true false y e = absurd (true≢false (sym e))
-
-either-true : (x y : Bool) → either x y ≡ true → (x ≡ true) ⊎ (y ≡ true)
-either-true true y e = inl refl
-either-true false y e = inr e
-
 -- ---- the registers that an instruction reads
 
-arguments-low : (h : ℕ) → arguments h ≤ 4
-unfolding arguments
-arguments-low h = go (either (eqb h 1) (eqb h 132)) (eqb h 2) (either (either (eqb h 113) (eqb h 114)) (either (eqb h 115) (eqb h 131)))
-  where
-    go : (x y z : Bool) → pick x 2 (pick y 4 (pick z 3 0)) ≤ 4
-    go true y z = omega arith
-    go false true z = omega arith
-    go false false true = omega arith
-    go false false false = omega arith
-
-argument-low : (z : ℤ) (r : ℕ) → argument z r ≡ true → r < 11
+argument-low : (z : ℤ) (r : ℕ) → argument (arguments (helperOf z)) r ≡ true → r < 11
 unfolding argument
-argument-low (pos h) r e = omega (arith, leb-true r (arguments h) (both-true (leb 1 r) (leb r (arguments h)) e .1), arguments-low h)
-argument-low (negsuc h) r e = absurd (true≢false (sym e))
+argument-low z r e =
+    let n = arguments (helperOf z) in
+    omega (arith, leb-true r n (both-true (leb 1 r) (leb r n) e .1), at-most-four z)
 
 either-low : (r a b : ℕ) → a ≤ 10 → b ≤ 10 → either (eqb r a) (eqb r b) ≡ true → r < 11
 either-low r a b la lb e = ⊎-elim (λ p. omega (arith, eqb-true r a p)) (λ p. omega (arith, eqb-true r b p)) (either-true (eqb r a) (eqb r b) e)

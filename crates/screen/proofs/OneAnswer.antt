@@ -5,9 +5,10 @@ use Prim.Native.Nat.{ℕ, _<_}
 use native.Mathlib.Decide.{decLt}
 use native.Mathlib.Omega.{arith}
 use lib.ListN.{length}
+use Rattle.paths.specs.Way.{Clear, Lacking}
 use Rattle.paths.proofs.Unique.{not-both, one-table}
 use Rattle.screen.specs.declared.Verdict.{Verdict}
-use Rattle.screen.specs.Verdict.{Before, fine, refused, beforePaths, Clear, Lacking, Judged, passed, unreadable, past, ScreenedAfter, Screened}
+use Rattle.screen.specs.Verdict.{Before, fine, refused, beforePaths, Judged, passed, unreadable, past, ScreenedAfter, Screened}
 
 -- a slot at fault is not clear
 pub at-fault : {b : List ℕ} {s r : ℕ} → Lacking b s r → Clear b s → ⊥

@@ -6,12 +6,13 @@ use lib.Count.{trailingZeros}
 use lib.ListN.{length}
 use borrow.Author.Tests.{lt-ltb, le-leb}
 use Rattle.shape.specs.Code.{slots}
-use Rattle.paths.specs.Mask.{readMask}
+use Rattle.paths.specs.Way.{Clear, Lacking}
+use Rattle.paths.specs.Mask.{readMask, lacking}
 use Rattle.paths.specs.Readable.{Readable, Filled, fits, Told, Analysed}
 use Rattle.paths.specs.declared.Ends.{Ends}
 use Rattle.paths.specs.declared.Ends.the-variants as E
-use Rattle.paths.proofs.Lacking.{lacking, unread, all-read}
-use Rattle.screen.specs.Verdict.{Clear, Lacking, Judged, passed, past}
+use Rattle.paths.proofs.Lacking.{lacking-first, all-read}
+use Rattle.screen.specs.Verdict.{Judged, passed, past}
 use Rattle.screen.specs.Parts.{Apt, endedOf}
 
 -- the analysis runs
@@ -21,10 +22,10 @@ ran b t u e A p = simp (lt-ltb 0 (slots b) (A .some), le-leb (slots b) 131072 (A
 
 module _ (b : List ℕ) (entries : ℕ) (A : Apt b entries) (s x : ℕ) (h : s < slots b) (X : Readable b s x) where
   pub clear : lacking (readMask b s) x ≡ 0 → Clear b s
-  clear z r e = all-read b s x X z r (A .low s r h e) e
+  clear z r e = all-read b s x h X z r (A .low s r h e) e
 
   pub first : 0 < lacking (readMask b s) x → Lacking b s (trailingZeros 16 (lacking (readMask b s) x))
-  first n = let U = unread b s x X n in record { inside = h; read = U .read; lacks = U .lacks; lowest = U .lowest }
+  first = lacking-first b s x h X
 
 pub at-end : (b : List ℕ) (e : Ends) → ((s : ℕ) → s < slots b → Clear b s) → Told b e → Judged b (endedOf e (slots b))
 unfolding endedOf

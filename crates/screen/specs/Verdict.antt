@@ -1,6 +1,6 @@
 -- The screen's verdict, and what it leaves in the table.
 use Prim.Native.Nat.{ℕ, _<_}
-use mathlib.Core.Bool.{true}
+use mathlib.Core.Bool.{Bool, true, false}
 use mathlib.Core.Path.{_≡_}
 use mathlib.Core.List.{List}
 use lib.Dec.{leb}
@@ -8,14 +8,13 @@ use lib.IntN.{pos}
 use lib.ListN.{length}
 use Rattle.wire.specs.Pick.{pick}
 use Rattle.wire.specs.declared.refusal.Refusal.{Refusal}
-use Rattle.shape.specs.Code.{slots, at, formAt}
+use Rattle.shape.specs.Code.{slots}
 use Rattle.shape.specs.Shapes.{lengthOk, judged}
 use Rattle.shape.specs.declared.Shape.{Shape}
 use Rattle.shape.specs.declared.Shape.the-variants as S
 use Rattle.shape.specs.declared.Shapes.{Shapes}
 use Rattle.shape.specs.declared.Shapes.the-variants as Ss
-use Rattle.paths.specs.Registers.{reads}
-use Rattle.paths.specs.Way.{Always, Lacks, Passes}
+use Rattle.paths.specs.Way.{Clear, Lacking, Passes}
 use Rattle.paths.specs.Readable.{Filled}
 use Rattle.screen.specs.declared.Fault.{Fault}
 use Rattle.screen.specs.declared.Fault.the-variants.{BadLength, ShortTable, Unknown, Register, Unused, Access, Target, Relocation, Unreadable, PastEnd}
@@ -58,18 +57,7 @@ unfoldable pub beforePaths : List ℕ → List ℕ → ℕ → Before
 beforePaths b l entries =
     pick (lengthOk b) (pick (leb (slots b) entries) (ofShapes (judged b l)) (refused (ShortTable (slots b)))) (refused BadLength)
 
--- no path comes to slot s without a register that is read there
-abbrev pub Clear : List ℕ → ℕ → Type 0
-Clear b s = (r : ℕ) → reads (formAt b s) (at b s) r ≡ true → Always b s r
-
--- 38 at slot s: register r is read, some path comes without it, and it is the lowest such
-pub record Lacking (b : List ℕ) (s r : ℕ) : Type 0 where
-  pub inside : s < slots b
-  pub read : reads (formAt b s) (at b s) r ≡ true
-  pub lacks : Lacks b s r
-  pub lowest : (q : ℕ) → q < r → reads (formAt b s) (at b s) q ≡ true → Always b s q
-
--- the verdict on the paths: the lowest place is named
+-- the verdict on the paths: 38 names the lowest slot and there the lowest register, 39 comes where no slot is at fault
 pub data Judged (b : List ℕ) : Verdict → Type 0 where
   passed : ((s : ℕ) → s < slots b → Clear b s) → (Passes b → ⊥) → Judged b Yes
   unreadable : {s r : ℕ} → Lacking b s r → ((t : ℕ) → t < s → Clear b t) → Judged b (Refused (Unreadable s r))
@@ -82,3 +70,17 @@ ScreenedAfter (refused f) b t v u = (v ≡ Refused f) × (u ≡ t)
 
 abbrev pub Screened : List ℕ → List ℕ → List ℕ → Verdict → List ℕ → Type 0
 Screened b l t v u = ScreenedAfter (beforePaths b l (length t)) b t v u
+
+-- yes, 38 and 39, which fill the table
+unfoldable pub fills : Verdict → Bool
+fills Yes = true
+fills (Refused BadLength) = false
+fills (Refused (ShortTable slots)) = false
+fills (Refused (Unknown slot)) = false
+fills (Refused (Register slot)) = false
+fills (Refused (Unused slot)) = false
+fills (Refused (Access slot)) = false
+fills (Refused (Target slot)) = false
+fills (Refused (Relocation index)) = false
+fills (Refused (Unreadable slot register)) = true
+fills (Refused (PastEnd slots)) = true

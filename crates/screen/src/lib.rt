@@ -2,15 +2,15 @@
 use paths::Ends;
 use shape::Shape;
 use shape::Shapes;
+use wire::number::SlotNumber;
 use wire::refusal::Refusal;
 ghost use mathlib.Core.Path.{_≡_};
 ghost use Prim.Native.Nat.{ℕ, _<_};
 ghost use lib.Count.{trailingZeros};
 ghost use lib.ListN.{length, getD};
 ghost use Rattle.shape.specs.Code.{slots};
-ghost use Rattle.paths.specs.Mask.{readMask};
+ghost use Rattle.paths.specs.Mask.{readMask, lacking};
 ghost use Rattle.paths.specs.Readable.{Readable, Told};
-ghost use Rattle.paths.proofs.Lacking.{lacking};
 ghost use Rattle.screen.specs.Verdict.{refusalOf, ofShape, ofShapes, beforePaths, Judged, ScreenedAfter, Screened};
 ghost use Rattle.screen.specs.Parts.{soFar, Apt, endedOf};
 
@@ -130,10 +130,10 @@ fn before_paths(code: &[u8], relocs: &[u32], entries: usize) -> Verdict
 
 // The registers that are read at a slot and are not in its entry, bit r for register r.
 fn lacking_at(code: &[u8], table: &[u16], s: usize) -> u16
-    requires { ⌜ (s < length (now table)) × (getD (now table) s 0 < 2048) ⌝ }
+    requires { ⌜ ((s < length (now table)) × (s < 131072)) × (getD (now table) s 0 < 2048) ⌝ }
     ensures { λ r. ⌜ r ≡ lacking (readMask (now (code .entry)) s) (getD (now (table .entry)) s 0) ⌝ }
 {
-    paths::read_mask(code, s) & (2047 - table[s])
+    paths::read_mask(code, SlotNumber(s as u32)) & (2047 - table[s])
 }
 
 // The lowest register of a mask.

@@ -11,16 +11,13 @@ use Rattle.shape.specs.Code.{slots, start}
 use Rattle.shape.specs.Shape.{shapeAt}
 use Rattle.shape.specs.Relocations.{relocations}
 use Rattle.shape.specs.Shapes.{orElse, shapesFrom, shapes, lengthOk, withRelocations, andRelocations, judged}
+use Rattle.shape.specs.Fine.{Fine}
 use Rattle.shape.specs.declared.Relocations.{Relocations}
 use Rattle.shape.specs.declared.Relocations.the-variants.{Exact, Differs}
 use Rattle.shape.specs.declared.Shape.{Shape}
 use Rattle.shape.specs.declared.Shape.the-variants as S
 use Rattle.shape.specs.declared.Shapes.{Shapes}
 use Rattle.shape.specs.declared.Shapes.the-variants as Ss
-
--- each start of the code is fine
-abbrev pub EachFine : List ℕ → Type 0
-EachFine b = (s : ℕ) → s < slots b → start b s ≡ true → shapeAt b s ≡ S.Fine
 
 never : {s : ℕ} {f : Shape} → Ss.Faulty s f ≡ Ss.Fine → ⊥
 never e = let z : _≡_ {A = ℕ} 0 1 = cc in omega arith
@@ -61,11 +58,6 @@ module _ (b : List ℕ) where
       go false q r = r
 
 -- ---- all of it
-
-pub record Fine (b l : List ℕ) : Type 0 where
-  pub length : lengthOk b ≡ true
-  pub each : EachFine b
-  pub relocs : relocations b l ≡ Exact
 
 with-fine : (r : Relocations) → withRelocations r ≡ Ss.Fine → r ≡ Exact
 unfolding withRelocations

@@ -2,7 +2,7 @@ pub mod Starts
 pub mod Lengths
 pub mod Judged
 pub mod Rules
-mod Tests
+pub mod Tests
 mod Uses
 mod Members
 mod Signs

@@ -1,60 +1,18 @@
 -- A set of slots as bits of words: what putting one in changes, and that the filled set is the starts.
-use mathlib.Core.Path.{_≡_, refl, sym, ap, _∙_}
+use mathlib.Core.Path.{_≡_, sym, _∙_}
 use mathlib.Core.Bool.{true, false}
 use mathlib.Core.List.{List}
-use Prim.Native.Nat.{ℕ, zero, suc, _+_, _-_, _*_, _/_, _%_, _^_, _≤_, _<_, max}
-use native.Mathlib.Nat.{pow-suc, mul-comm, div-one, zero-div, div-div-eq-div-mul, one-mul}
+use Prim.Native.Nat.{ℕ, _/_, _%_, _^_, _≤_, _<_}
 use native.Mathlib.Decide.{ℕ-discrete, decLt}
 use native.Mathlib.Omega.{arith}
-use lib.Bits.{bitOr, or-step, or-shr}
-use lib.Pow.{shl-exact}
+use lib.Bits.{bitOr}
 use lib.ListN.{length, getD, replicate, length-set, length-replicate, getD-replicate, List·getD-eq-default}
 use lib.Seq.{getD-set-same, getD-set-other}
+use Rattle.wire.specs.Bit.{bit}
+use Rattle.wire.proofs.Bits.{bit-of-zero, or-pow, or-pow-other}
 use Rattle.shape.specs.Code.{slots, start}
-use Rattle.shape.specs.Set.{bit, member, with, after, Starts}
+use Rattle.shape.specs.Set.{member, with, after, Starts}
 use Rattle.shape.proofs.Starts.{start-first, start-after, start-between, after-more}
-
--- ---- one word
-
-bit-zero : (n : ℕ) → bit n 0 ≡ n % 2
-unfolding bit
-bit-zero n = ap (λ (x : ℕ). x % 2) (div-one n)
-
-bit-suc : (n r : ℕ) → bit n (suc r) ≡ bit (n / 2) r
-unfolding bit
-bit-suc n r = ap (λ (x : ℕ). n / x % 2) (pow-suc 2 r ∙ mul-comm (2 ^ r) 2) ∙ ap (λ (x : ℕ). x % 2) (sym (div-div-eq-div-mul n 2 (2 ^ r)))
-
-bit-none : (r : ℕ) → bit 0 r ≡ 0
-unfolding bit
-bit-none r = ap (λ (x : ℕ). x % 2) (zero-div (2 ^ r))
-
-max-mod : (q x y : ℕ) → (q * 2 + max (x % 2) (y % 2)) % 2 ≡ max (x % 2) (y % 2)
-max-mod q x y = omega arith
-
-bit-or : (a b r : ℕ) → bit (bitOr a b) r ≡ max (bit a r) (bit b r)
-unfolding bit
-bit-or a b r =
-    ap (λ (x : ℕ). x % 2) (or-shr a b r ∙ or-step (a / 2 ^ r) (b / 2 ^ r))
-    ∙ max-mod (bitOr (a / 2 ^ r / 2) (b / 2 ^ r / 2)) (a / 2 ^ r) (b / 2 ^ r)
-
-bit-le : (m r : ℕ) → bit m r ≤ 1
-unfolding bit
-bit-le m r = omega arith
-
--- 2 ^ k has bit k and no other
-bit-pow : (k : ℕ) → bit (2 ^ k) k ≡ 1
-bit-pow zero = bit-zero 1
-bit-pow (suc k) = bit-suc (2 ^ suc k) k ∙ ap (λ (x : ℕ). bit x k) (omega (arith, pow-suc 2 k)) ∙ bit-pow k
-
-bit-pow-other : (k r : ℕ) → (r ≡ k → ⊥) → bit (2 ^ k) r ≡ 0
-bit-pow-other zero zero n = absurd (n refl)
-bit-pow-other zero (suc r) n = bit-suc 1 r ∙ bit-none r
-bit-pow-other (suc k) zero n = bit-zero (2 ^ suc k) ∙ omega (arith, pow-suc 2 k)
-bit-pow-other (suc k) (suc r) n =
-    bit-suc (2 ^ suc k) r ∙ ap (λ (x : ℕ). bit x r) (omega (arith, pow-suc 2 k)) ∙ bit-pow-other k r (λ e. n (ap suc e))
-
-pub shl-one : (k : ℕ) → k < 64 → 1 * 2 ^ k % 2 ^ 64 ≡ 2 ^ k
-shl-one k h = shl-exact 1 k 64 (omega arith) (omega arith) ∙ one-mul (2 ^ k)
 
 -- ---- the set
 
@@ -65,8 +23,7 @@ module _ (d : List ℕ) (v : ℕ) where
   member-same : v / 64 < length d → member (with d v) v ≡ true
   unfolding member with word
   member-same h =
-      let e : bit word (v % 64) ≡ 1 = omega (arith, bit-or (getD d (v / 64) 0) (2 ^ (v % 64)) (v % 64), bit-pow (v % 64), bit-le (getD d (v / 64) 0) (v % 64)) in
-      rw (getD-set-same d (v / 64) word 0 h, e)
+      rw (getD-set-same d (v / 64) word 0 h, or-pow (getD d (v / 64) 0) (v % 64))
 
   member-other : (u : ℕ) → v / 64 < length d → (u ≡ v → ⊥) → member (with d v) u ≡ member d u
   unfolding member with word
@@ -74,9 +31,7 @@ module _ (d : List ℕ) (v : ℕ) where
     where
       go : Dec (u / 64 ≡ v / 64) → member (with d v) u ≡ member d u
       go (yes e) =
-          let o : bit (2 ^ (v % 64)) (u % 64) ≡ 0 = bit-pow-other (v % 64) (u % 64) (λ q. n (omega arith)) in
-          let w : bit word (u % 64) ≡ bit (getD d (v / 64) 0) (u % 64) = omega (arith, bit-or (getD d (v / 64) 0) (2 ^ (v % 64)) (u % 64), bit-le (getD d (v / 64) 0) (u % 64)) in
-          rw (e, getD-set-same d (v / 64) word 0 h, w)
+          rw (e, getD-set-same d (v / 64) word 0 h, or-pow-other (getD d (v / 64) 0) (v % 64) (u % 64) (λ q. n (omega arith)))
       go (no e) = rw (getD-set-other d (v / 64) (u / 64) word 0 e)
 
 empty : (n j : ℕ) → getD {A = ℕ} (replicate n 0) j 0 ≡ 0
@@ -100,7 +55,7 @@ filled-none b d e =
       words = length-replicate {A = ℕ} 2048 0;
       here = start-first b;
       before = λ u l. absurd (omega arith);
-      from = λ u l. rw (empty 2048 (u / 64), bit-none (u % 64));
+      from = λ u l. rw (empty 2048 (u / 64), bit-of-zero (u % 64));
     })
 
 pub filled-more : (b d : List ℕ) (s : ℕ) → s < 131072 → Filled b d s → Filled b (with d s) (after b s)

@@ -2,11 +2,12 @@
 use mathlib.Core.Path.{_≡_, refl, sym, ap, _∙_}
 use mathlib.Core.Bool.{Bool, true, false}
 use mathlib.Core.List.{List, [], _∷_}
-use Prim.Native.Nat.{ℕ, suc, _+_, _-_, _*_, _<_, _≤_}
+use Prim.Native.Nat.{ℕ, suc, _+_, _-_, _<_, _≤_}
 use native.Mathlib.Decide.{decLt}
 use native.Mathlib.Numerals.{add-one}
 use native.Mathlib.Omega.{arith}
 use Rattle.wire.specs.Pick.{pick}
+use Rattle.wire.specs.Number.{bytesBefore}
 use Rattle.shape.specs.Code.{slots, wide, start}
 use Rattle.shape.specs.Set.{after}
 use Rattle.shape.specs.Shape.{shapeAt}
@@ -70,8 +71,8 @@ module _ (b : List ℕ) (s : ℕ) (G : Going b s) where
 module _ (b : List ℕ) (n s : ℕ) where
   pub wides-end : n ≤ s → wideFrom b s (n - s) ≡ []
   unfolding wideFrom
-  wides-end = at-end b [] (λ s r. pick (wide b s) (8 * s ∷ r) r) (wideFrom b) (λ s. refl) (λ s n. refl) n s
+  wides-end = at-end b [] (λ s r. pick (wide b s) (bytesBefore s ∷ r) r) (wideFrom b) (λ s. refl) (λ s n. refl) n s
 
-  pub wides-start : s < n → start b s ≡ true → wideFrom b s (n - s) ≡ pick (wide b s) (8 * s ∷ wideFrom b (after b s) (n - after b s)) (wideFrom b (after b s) (n - after b s))
+  pub wides-start : s < n → start b s ≡ true → wideFrom b s (n - s) ≡ pick (wide b s) (bytesBefore s ∷ wideFrom b (after b s) (n - after b s)) (wideFrom b (after b s) (n - after b s))
   unfolding wideFrom
-  wides-start = at-start b [] (λ s r. pick (wide b s) (8 * s ∷ r) r) (wideFrom b) (λ s. refl) (λ s n. refl) n s
+  wides-start = at-start b [] (λ s r. pick (wide b s) (bytesBefore s ∷ r) r) (wideFrom b) (λ s. refl) (λ s n. refl) n s

@@ -2,7 +2,7 @@
 use mathlib.Core.Path.{_≡_, refl, sym, ap, _∙_}
 use mathlib.Core.Bool.{Bool, true, false}
 use mathlib.Core.List.{List, _∷_}
-use Prim.Native.Nat.{ℕ, suc, _+_, _-_, _*_, _<_, _≤_}
+use Prim.Native.Nat.{ℕ, suc, _+_, _-_, _<_, _≤_}
 use native.Mathlib.Numerals.{add-one}
 use native.Mathlib.Omega.{arith}
 use lib.Dec.{eqb, leb}
@@ -10,6 +10,7 @@ use lib.ListN.{length, getD, drop, drop-of-length-le}
 use lib.Seq.{drop-cons}
 use borrow.Author.Tests.{leb-true, leb-false}
 use Rattle.wire.specs.Pick.{pick}
+use Rattle.wire.specs.Number.{bytesBefore}
 use Rattle.shape.specs.Code.{slots, wide, start}
 use Rattle.shape.specs.Set.{after}
 use Rattle.shape.specs.Pair.{pairAt}
@@ -25,12 +26,12 @@ orDiffers Exact rest = rest
 orDiffers (Differs k) rest = Differs k
 
 -- the list from k on against one offset and the rest
-one-pair : (l : List ℕ) (k s : ℕ) (os : List ℕ) → differs k (8 * s ∷ os) (drop k l) ≡ orDiffers (pairAt l k s) (differs (k + 2) os (drop (k + 2) l))
+one-pair : (l : List ℕ) (k s : ℕ) (os : List ℕ) → differs k (bytesBefore s ∷ os) (drop k l) ≡ orDiffers (pairAt l k s) (differs (k + 2) os (drop (k + 2) l))
 unfolding differs pairAt
-one-pair l k s os = go (leb (length l) k) refl (leb (length l) (suc k)) refl (eqb (getD l k 0) (8 * s)) refl
+one-pair l k s os = go (leb (length l) k) refl (leb (length l) (suc k)) refl (eqb (getD l k 0) (bytesBefore s)) refl
   where
-    go : (x : Bool) → leb (length l) k ≡ x → (y : Bool) → leb (length l) (suc k) ≡ y → (t : Bool) → eqb (getD l k 0) (8 * s) ≡ t
-        → differs k (8 * s ∷ os) (drop k l) ≡ orDiffers (pick x (Differs k) (pick t (pick y (Differs (suc k)) Exact) (Differs k))) (differs (k + 2) os (drop (k + 2) l))
+    go : (x : Bool) → leb (length l) k ≡ x → (y : Bool) → leb (length l) (suc k) ≡ y → (t : Bool) → eqb (getD l k 0) (bytesBefore s) ≡ t
+        → differs k (bytesBefore s ∷ os) (drop k l) ≡ orDiffers (pick x (Differs k) (pick t (pick y (Differs (suc k)) Exact) (Differs k))) (differs (k + 2) os (drop (k + 2) l))
     go true x y f t g = rw (drop-of-length-le l {i = k} (leb-true _ _ x))
     go false x true f t g =
         rw (drop-cons l k 0 (leb-false _ _ x), drop-of-length-le l {i = suc k} (leb-true _ _ f), g) (one t)
@@ -49,7 +50,7 @@ one-pair l k s os = go (leb (length l) k) refl (leb (length l) (suc k)) refl (eq
 -- where the pair is exact, two numbers were there
 pub pair-exact : (l : List ℕ) (k s : ℕ) → pairAt l k s ≡ Exact → k + 2 ≤ length l
 unfolding pairAt
-pair-exact l k s e = go (leb (length l) k) refl (leb (length l) (suc k)) refl (eqb (getD l k 0) (8 * s)) e
+pair-exact l k s e = go (leb (length l) k) refl (leb (length l) (suc k)) refl (eqb (getD l k 0) (bytesBefore s)) e
   where
     never : (j : ℕ) → Differs j ≡ Exact → ⊥
     never j p = let z : _≡_ {A = ℕ} 0 1 = cc in omega arith

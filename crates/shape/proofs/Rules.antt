@@ -13,6 +13,7 @@ use lib.ListN.{getD}
 use borrow.Author.Tests.{eqb-true, leb-true, ltb-true, eq-eqb}
 use Rattle.wire.specs.Pick.{pick, both, implies, not}
 use Rattle.wire.specs.Le.{byteAt}
+use Rattle.wire.specs.Number.{bytesBefore}
 use Rattle.insn.specs.Layout.{insnAt}
 use Rattle.insn.specs.Form.{formOf, sizes, withConstant, withRegister, jumps}
 use Rattle.insn.specs.Rfc.{sizeField}
@@ -21,11 +22,10 @@ use Rattle.insn.specs.declared.form.Form.{Form}
 use Rattle.insn.specs.declared.form.Form.the-variants.{NoForm, WideLoad, Ldx, Stx, AluImm, AluReg, MovImm, MovReg, Ja, JeqImm, JneImm, Call, Exit}
 use Rattle.shape.specs.Code.{slots, at, formAt, wide, start}
 use Rattle.shape.specs.Fields.{uses}
-use Rattle.shape.specs.Order.{firstBroken}
-use Rattle.shape.specs.Shape.{isHelper, known, registersOk, unusedZero, accessOk, target, isStart, shapeOf, shapeAt}
+use Rattle.shape.specs.Shape.{known, registersOk, unusedZero, accessOk, target, isStart, firstBroken, shapeOf, shapeAt}
 use Rattle.shape.specs.declared.Shape.the-variants as S
 use Rattle.shape.proofs.Tests.{both-true, three-true, implied}
-use Rattle.shape.proofs.Starts.{start-narrow, start-second, start-wide}
+use Rattle.shape.proofs.Starts.{start-narrow, start-wide}
 
 -- ---- the five rules
 
@@ -46,13 +46,13 @@ none-broken true false u a t e = let z : _≡_ {A = ℕ} 0 1 = cc in absurd (ome
 none-broken false r u a t e = let z : _≡_ {A = ℕ} 0 1 = cc in absurd (omega arith)
 
 pub fine-rules : (b : List ℕ) (s : ℕ) → shapeAt b s ≡ S.Fine → Rules b s
-unfolding shapeAt shapeOf firstBroken
+unfolding shapeAt shapeOf
 fine-rules b s e =
     let p = none-broken _ _ _ _ _ e in
     record { form = p .0; registers = p .1; unused = p .2; access = p .3; jump = p .4 }
 
 pub rules-fine : (b : List ℕ) (s : ℕ) → Rules b s → shapeAt b s ≡ S.Fine
-unfolding shapeAt shapeOf
+unfolding shapeAt shapeOf firstBroken
 rules-fine b s R = rw (R .form, R .registers, R .unused, R .access, R .jump)
 
 -- ---- the wide form, by the first byte
@@ -88,7 +88,7 @@ narrow-pick true f g p q = p
 narrow-pick false f g p q = q
 
 -- a byte other than 0x18 has no wide form
-pub wide-byte : (c : ℕ) → formOf c ≡ WideLoad → c ≡ 0x18
+wide-byte : (c : ℕ) → formOf c ≡ WideLoad → c ≡ 0x18
 unfolding formOf sizeField sizes withConstant withRegister jumps narrow allNarrow
 wide-byte c e = go (eqb (c % 8) 0) refl (eqb (c / 32) 0) refl (eqb (c / 8 % 4) 3) refl e
   where
@@ -116,7 +116,7 @@ wide-byte c e = go (eqb (c % 8) 0) refl (eqb (c / 32) 0) refl (eqb (c / 8 % 4) 3
 
 pub wide-form : (b : List ℕ) (s : ℕ) → (wide b s ≡ true) ↔ (formAt b s ≡ WideLoad)
 unfolding wide formAt at insnAt formOf sizeField
-wide-form b s = ((λ e. ap formOf (eqb-true (byteAt b (8 * s)) 0x18 e)), λ e. eq-eqb _ _ (wide-byte (byteAt b (8 * s)) e))
+wide-form b s = ((λ e. ap formOf (eqb-true (byteAt b (bytesBefore s)) 0x18 e)), λ e. eq-eqb _ _ (wide-byte (byteAt b (bytesBefore s)) e))
 
 not-wide : (b : List ℕ) (s : ℕ) → narrow (formAt b s) ≡ true → wide b s ≡ false
 unfolding narrow
@@ -134,17 +134,10 @@ module _ (b : List ℕ) (s : ℕ) (R : Rules b s) where
   unfolding uses known
   has-form e = true≢false (sym (rw e at (R .form)))
 
-  -- a wide form is not cut, and its second slot is no start
+  -- a wide form is not cut
   whole : wide b s ≡ true → suc s < slots b
   unfolding uses known
   whole e = ltb-true _ _ (both-true _ _ (rw (wide-form b s .0 e) at (R .form)) .0)
-
-  pub wide-whole : start b s ≡ true → wide b s ≡ true → (suc s < slots b) × (start b (suc s) ≡ false)
-  wide-whole h e = (whole e, start-second b s h e)
-
-  pub has-helper : formAt b s ≡ Call → isHelper (at b s .imm) ≡ true
-  unfolding uses known
-  has-helper e = rw e at (R .form)
 
   -- 33
   register-parts : (implies (uses (formAt b s) .dst) (leb (at b s .dst) 10) ≡ true) × (implies (uses (formAt b s) .src) (leb (at b s .src) 10) ≡ true) × (implies (uses (formAt b s) .writes) (not (eqb (at b s .dst) 10)) ≡ true)
@@ -156,9 +149,6 @@ module _ (b : List ℕ) (s : ℕ) (R : Rules b s) where
 
   pub src-most : uses (formAt b s) .src ≡ true → at b s .src ≤ 10
   src-most h = leb-true _ _ (implied _ _ (register-parts .1) h)
-
-  pub written-other : uses (formAt b s) .writes ≡ true → at b s .dst ≡ 10 → ⊥
-  written-other h e = true≢false (sym (rw (eq-eqb (at b s .dst) 10 e) at (implied (uses (formAt b s) .writes) (not (eqb (at b s .dst) 10)) (register-parts .2) h)))
 
   -- 36
   pub jumps-to : uses (formAt b s) .jumps ≡ true → (t : ℕ) × (target s (at b s .off) ≡ pos t) × (t < slots b) × (start b t ≡ true)

@@ -1,4 +1,4 @@
--- Signed numbers as the code meets them: zero, a helper's number, an offset below the frame, a jump's target.
+-- Signed numbers as the code meets them: zero, an offset below the frame, a jump's target.
 use mathlib.Core.Path.{_≡_, refl, sym, ap, _∙_}
 use mathlib.Core.Bool.{Bool, true, false, true≢false, cond}
 use mathlib.Core.List.{List}
@@ -7,50 +7,21 @@ use native.Mathlib.Numerals.{add-one}
 use native.Mathlib.Omega.{arith}
 use lib.Dec.{eqb, leb, ltb}
 use lib.IntN.{ℤ, pos, negsuc, _+ℤ_, _-ℤ_, natAbs}
-use lib.ListN.{length, getD, drop, drop-of-length-le}
-use lib.Seq.{drop-cons}
 use lib.Signed.{mag, ltZ}
 use borrow.Author.Tests.{ltb-true, ne-eqb}
 use mir.Syntax.{Width, w16, w64}
 use mir.Val.{SFits, toZ, ofZ, bits}
 use mir.ValLaws.{toZ-ofZ, toZ-pos, pow-bits}
-use Rattle.wire.specs.Pick.{both, either, isZero}
+use Rattle.wire.specs.Pick.{both, isZero}
 use Rattle.wire.proofs.Sign.{negative}
 use Rattle.shape.specs.Code.{slots, start}
-use Rattle.shape.specs.Shape.{helpers, among, isHelper, inFrame, target, isStart}
+use Rattle.shape.specs.Shape.{inFrame, target, isStart}
 
 -- the bits of a number are 0 where it is 0
 pub zero-bits : (w : Width) (z : ℤ) → SFits w z → eqb (ofZ w z) 0 ≡ isZero z
 unfolding isZero
 zero-bits w (pos n) f = refl
 zero-bits w (negsuc n) f = ne-eqb (2 ^ bits w - suc n) 0 (λ e. omega (arith, pow-bits w, f .sfits))
-
--- ---- helpers
-
-pub among-next : (n : ℕ) (hs : List ℕ) (k : ℕ) → k < length hs → among n (drop k hs) ≡ either (eqb n (getD hs k 0)) (among n (drop (k + 1) hs))
-unfolding among
-among-next n hs k h = rw (add-one, drop-cons hs k 0)
-
-pub among-end : (n : ℕ) (hs : List ℕ) (k : ℕ) → length hs ≤ k → among n (drop k hs) ≡ false
-unfolding among
-among-end n hs k h = rw (drop-of-length-le hs {i = k} h)
-
-module _ (w : Width) (z : ℤ) (f : SFits w z) where
-  pub helper-negative : ltZ (toZ w (ofZ w z)) (pos 0) ≡ true → isHelper z ≡ false
-  unfolding isHelper
-  helper-negative t = go z (rw (toZ-ofZ w z f) at t)
-    where
-      go : (z : ℤ) → ltZ z (pos 0) ≡ true → isHelper z ≡ false
-      go (pos n) t = absurd (omega (arith, ltb-true n 0 t))
-      go (negsuc n) t = refl
-
-  pub helper-among : ltZ (toZ w (ofZ w z)) (pos 0) ≡ false → isHelper z ≡ among (natAbs (toZ w (ofZ w z))) helpers
-  unfolding isHelper
-  helper-among t = rw (toZ-ofZ w z f) (go z (rw (toZ-ofZ w z f) at t))
-    where
-      go : (z : ℤ) → ltZ z (pos 0) ≡ false → isHelper z ≡ among (natAbs z) helpers
-      go (pos n) t = refl
-      go (negsuc n) t = absurd (true≢false t)
 
 -- ---- the frame
 

@@ -1,7 +1,8 @@
 -- Tests of tests: what follows from one that is true, and the code's `!x | y` and `x | y` as the definitions' `implies`.
 use mathlib.Core.Path.{_≡_, refl, sym}
 use mathlib.Core.Bool.{Bool, true, false, true≢false, _||_, not}
-use Rattle.wire.specs.Pick.{both, implies, not as negated}
+use mathlib.Core.Logic.{_⊎_, inl, inr}
+use Rattle.wire.specs.Pick.{both, either, implies, not as negated}
 
 pub both-true : (x y : Bool) → both x y ≡ true → (x ≡ true) × (y ≡ true)
 both-true true y e = (refl, e)
@@ -12,6 +13,10 @@ three-true x y z e =
     let p = both-true x (both y z) e in
     let q = both-true y z (p .1) in
     (p .0, q .0, q .1)
+
+pub either-true : (x y : Bool) → either x y ≡ true → (x ≡ true) ⊎ (y ≡ true)
+either-true true y e = inl refl
+either-true false y e = inr e
 
 pub implied : (x y : Bool) → implies x y ≡ true → x ≡ true → y ≡ true
 implied true y e h = e

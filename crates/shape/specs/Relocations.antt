@@ -1,8 +1,9 @@
 -- Rule 37: the relocations are exactly the wide instructions' offsets ascending, each with a map number (any u32).
-use Prim.Native.Nat.{ℕ, zero, suc, _+_, _*_}
+use Prim.Native.Nat.{ℕ, zero, suc, _+_}
 use mathlib.Core.List.{List, [], _∷_}
 use lib.Dec.{eqb}
 use Rattle.wire.specs.Pick.{pick}
+use Rattle.wire.specs.Number.{bytesBefore}
 use Rattle.shape.specs.Code.{slots, start, wide}
 use Rattle.shape.specs.declared.Relocations.{Relocations}
 use Rattle.shape.specs.declared.Relocations.the-variants.{Exact, Differs}
@@ -10,7 +11,7 @@ use Rattle.shape.specs.declared.Relocations.the-variants.{Exact, Differs
 -- the byte offsets of the wide instructions among the n slots from s on
 unfoldable pub wideFrom : List ℕ → ℕ → ℕ → List ℕ
 wideFrom b s zero = []
-wideFrom b s (suc n) = pick (start b s) (pick (wide b s) (8 * s ∷ wideFrom b (suc s) n) (wideFrom b (suc s) n)) (wideFrom b (suc s) n)
+wideFrom b s (suc n) = pick (start b s) (pick (wide b s) (bytesBefore s ∷ wideFrom b (suc s) n) (wideFrom b (suc s) n)) (wideFrom b (suc s) n)
 
 unfoldable pub wideOffsets : List ℕ → List ℕ
 wideOffsets b = wideFrom b 0 (slots b)

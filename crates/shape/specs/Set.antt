@@ -7,11 +7,8 @@ use lib.Bits.{bitOr}
 use lib.Dec.{eqb}
 use lib.ListN.{getD, set}
 use Rattle.wire.specs.Pick.{pick}
+use Rattle.wire.specs.Bit.{bit}
 use Rattle.shape.specs.Code.{slots, wide, start}
-
--- bit r of a number
-unfoldable pub bit : ℕ → ℕ → ℕ
-bit x r = x / 2 ^ r % 2
 
 unfoldable pub member : List ℕ → ℕ → Bool
 member d u = eqb (bit (getD d (u / 64) 0) (u % 64)) 1

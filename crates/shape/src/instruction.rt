@@ -10,40 +10,33 @@ use crate::fields::uses_src;
 use crate::fields::writes;
 use crate::set::contains;
 use crate::set::next;
+use crate::slot::instruction_at;
 use insn::Insn;
 use insn::form::Form;
 use insn::form::Size;
 use insn::form::form_of;
-use insn::insn_at;
+use insn::helper::Helper;
+use insn::helper::helper_of;
+use wire::number::SlotNumber;
 ghost use mathlib.Core.Path.{_≡_};
 ghost use Prim.Native.Nat.{_≤_, _<_};
+ghost use Rattle.insn.specs.Helper.{helperOf, isHelper};
 ghost use Rattle.insn.specs.Rfc.{width};
 ghost use Rattle.shape.specs.Code.{slots, at};
-ghost use Rattle.shape.specs.Shape.{isHelper, allZero, known as knownOf, registersOk, unusedZero, inFrame, accessOk, target, isStart, shapeAt};
+ghost use Rattle.shape.specs.Shape.{allZero, known as knownOf, registersOk, unusedZero, inFrame, accessOk, target, isStart, firstBroken, shapeAt};
 ghost use Rattle.shape.specs.Shapes.{shapes};
 ghost use Rattle.shape.specs.Fields.{uses, wide};
-ghost use Rattle.shape.specs.Order.{firstBroken};
 ghost use Rattle.shape.specs.Set.{Starts};
-
-const HELPERS: [u32; 11] = [1, 2, 5, 14, 15, 35, 113, 114, 115, 131, 132];
 
 // ---- rule 32
 
 fn is_helper(imm: i32) -> bool
-    ensures { λ r. ⌜ r ≡ isHelper imm ⌝ }
+    ensures { λ r. ⌜ r ≡ isHelper (helperOf imm) ⌝ }
 {
-    if imm < 0 {
-        return false;
+    match helper_of(imm) {
+        Helper::NoHelper => false,
+        Helper::Takes(_) => true,
     }
-    let n = imm as u32;
-    let mut k = 0;
-    while k < 11 {
-        if n == HELPERS[k] {
-            return true;
-        }
-        k += 1;
-    }
-    false
 }
 
 fn all_zero(i: Insn) -> bool
@@ -58,7 +51,7 @@ fn wide_ok(code: &[u8], s: usize, i: Insn) -> bool
     ensures { λ r. ⌜ r ≡ knownOf (now (code .entry)) s wide ⌝ }
 {
     if s + 1 < code.len() / 8 {
-        let second = insn_at(code, 8 * (s + 1));
+        let second = instruction_at(code, SlotNumber(s as u32 + 1));
         return (i.src == 1) & ((i.imm == 0) & all_zero(second));
     }
     false
@@ -165,7 +158,7 @@ fn shape_at(code: &[u8], set: &[u64; 2048], s: usize) -> Shape
     requires { ⌜ Starts (now code) (now set) ⌝ }
     ensures { λ r. ⌜ r ≡ shapeAt (now (code .entry)) s ⌝ }
 {
-    let i = insn_at(code, 8 * s);
+    let i = instruction_at(code, SlotNumber(s as u32));
     let f = form_of(i.code);
     first_broken(
         known(code, s, i, f),

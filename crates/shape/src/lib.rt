@@ -3,6 +3,7 @@ mod fields;
 mod instruction;
 mod pairs;
 mod set;
+pub mod slot;
 
 ghost use mathlib.Core.Path.{_≡_};
 ghost use mathlib.Core.Bool.{true};

@@ -1,8 +1,10 @@
 // Where the code's instructions start: a set of slots, a bit for each.
+use crate::slot::is_wide;
+use wire::number::SlotNumber;
 ghost use mathlib.Core.Path.{_≡_};
 ghost use Prim.Native.Nat.{_+_, _≤_, _<_, _^_};
 ghost use lib.ListN.{replicate};
-ghost use Rattle.shape.specs.Code.{slots, wide};
+ghost use Rattle.shape.specs.Code.{slots};
 ghost use Rattle.shape.specs.Set.{member, with, after, Starts};
 
 fn one(k: usize) -> u64
@@ -28,19 +30,12 @@ pub(crate) fn contains(set: &[u64; 2048], u: usize) -> bool
     (word >> (u % 64)) % 2 == 1
 }
 
-pub(crate) fn is_wide(code: &[u8], s: usize) -> bool
-    requires { ⌜ s < 131072 ⌝ }
-    ensures { λ r. ⌜ r ≡ wide (now (code .entry)) s ⌝ }
-{
-    wire::get_u8(code, 8 * s) == 0x18
-}
-
 // The start after the start s.
 pub(crate) fn next(code: &[u8], s: usize) -> usize
     requires { ⌜ s < 131072 ⌝ }
     ensures { λ r. ⌜ r ≡ after (now (code .entry)) s ⌝ }
 {
-    if is_wide(code, s) {
+    if is_wide(code, SlotNumber(s as u32)) {
         return s + 2;
     }
     s + 1

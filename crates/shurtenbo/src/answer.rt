@@ -1,5 +1,5 @@
 // The answer of a call, as three numbers.
-use recordfields::word::bits64;
+use wire::bits64;
 use wire::refusal::Refusal;
 ghost use mathlib.Core.Path.{_≡_};
 ghost use Rattle.shurtenbo.specs.Answer.{doneWith, numbersOf, onlyNumber};

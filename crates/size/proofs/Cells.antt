@@ -14,7 +14,7 @@ use Rattle.ir.specs.declared.Operand.the-variants.{Var, Immediate}
 use Rattle.ir.specs.declared.Opcode.{Opcode}
 use Rattle.ir.specs.declared.Opcode.the-variants as C
 use Rattle.opcode.specs.Opcode.{opcodeIn}
-use Rattle.record.specs.Instruction.{fieldsAt}
+use Rattle.record.specs.Instruction.{fieldsIn}
 use Rattle.insn.specs.declared.form.Form.{Form}
 use Rattle.frame.specs.Cell.{Frame}
 use Rattle.frame.specs.declared.Cell.the-variants.{At}
@@ -24,17 +24,8 @@ use Rattle.lower.specs.Instruction.{onFirst, onTwo, onThree, onNone, operate, f
 use Rattle.lower.specs.Payload.{operandsOf, instructionIn}
 use Rattle.lower.specs.Held.{mapIn, held}
 use Rattle.size.specs.Size.{everyCell, sizeIn}
+use Rattle.size.specs.Celled.{HasCell, Celled}
 use Rattle.size.proofs.Takes.{joined, join}
-
--- v has a cell in f
-pub record HasCell (f : Frame) (v : ℕ) : Type 0 where
-  pub offset : ℤ
-  pub at : f .cell v ≡ At offset
-
--- the result and every variable among the operands have one
-pub record Celled (f : Frame) (result : ℕ) (l : List Operand) : Type 0 where
-  pub kept : HasCell f result
-  pub read : (v : ℕ) → List·Memᴰ (Var v) l → HasCell f v
 
 -- ---- two that take the same
 
@@ -150,4 +141,4 @@ same-size f j condition result o l c = same f result l c j condition o .told
 -- the instruction in a payload
 pub same-size-in : (f : Frame) (j : ℕ) (condition : Bool) (p : List ℕ) → Celled f (unsignedAt w32 p 0) (operandsOf p) → held (instructionIn f j condition p) ≡ sizeIn condition p
 unfolding sizeIn instructionIn
-same-size-in f j condition p c = same-size f j condition (unsignedAt w32 p 0) (opcodeIn (fieldsAt p 0)) (operandsOf p) c
+same-size-in f j condition p c = same-size f j condition (unsignedAt w32 p 0) (opcodeIn (fieldsIn p 0)) (operandsOf p) c

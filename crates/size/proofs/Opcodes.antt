@@ -16,8 +16,9 @@ use Rattle.ir.specs.declared.Operand.{Operand}
 use Rattle.ir.specs.declared.Operand.the-variants.{Immediate}
 use Rattle.ir.specs.declared.Opcode.the-variants as C
 use Rattle.opcode.specs.Opcode.{opcodeIn}
+use Rattle.opcode.proofs.Opcodes.{else-load-key}
 use Rattle.operand.specs.Operand.{operandIn, operandsIn}
-use Rattle.record.specs.Instruction.{fieldsAt}
+use Rattle.record.specs.Instruction.{fieldsIn}
 use Rattle.insn.specs.Rfc.{LDX, STX}
 use Rattle.insn.specs.Form.{memCode}
 use Rattle.lower.specs.Op.{Lowered, refused, _▸_}
@@ -191,8 +192,6 @@ module _ (p : List ℕ) where
 
   -- a code that is no opcode's is LoadKey's
   pub other-code : (n : ℕ) → n ≡ byteAt p 4 → (n ≡ 1 → ⊥) → (n ≡ 2 → ⊥) → (n ≡ 3 → ⊥) → (n ≡ 4 → ⊥) → (n ≡ 5 → ⊥) → (n ≡ 6 → ⊥) → (n ≡ 7 → ⊥) → (n ≡ 8 → ⊥) → (n ≡ 9 → ⊥)
-      → (n ≡ 10 → ⊥) → (n ≡ 11 → ⊥) → (n ≡ 12 → ⊥) → opcodeIn (fieldsAt p 0) ≡ C.LoadKey
-  unfolding opcodeIn fieldsAt
-  other-code n z a b c d e f g h i j k l =
-      rw (← z, ne-eqb n 1 a, ne-eqb n 2 b, ne-eqb n 3 c, ne-eqb n 4 d, ne-eqb n 5 e, ne-eqb n 6 f, ne-eqb n 7 g, ne-eqb n 8 h, ne-eqb n 9 i, ne-eqb n 10 j, ne-eqb n 11 k, ne-eqb n 12 l)
-      refl
+      → (n ≡ 10 → ⊥) → (n ≡ 11 → ⊥) → (n ≡ 12 → ⊥) → opcodeIn (fieldsIn p 0) ≡ C.LoadKey
+  unfolding fieldsIn
+  other-code n z a b c d e f g h i j k l = else-load-key (fieldsIn p 0) z a c d e f g h i j k l

@@ -6,6 +6,7 @@ use Prim.Native.Nat.{ℕ, _+_}
 use native.Mathlib.Omega.{arith}
 use lib.IntN.{ℤ, pos}
 use Rattle.wire.specs.Pick.{pick}
+use Rattle.wire.specs.Range.{fits16, fits32}
 use Rattle.ir.specs.declared.BinaryOp.{BinaryOp}
 use Rattle.ir.specs.declared.Operand.{Operand}
 use Rattle.ir.specs.declared.Operand.the-variants.{Var, Immediate}
@@ -14,7 +15,7 @@ use Rattle.insn.specs.declared.MemCode.the-variants as W
 use Rattle.insn.specs.declared.form.Form.{Form}
 use Rattle.insn.specs.declared.form.Form.the-variants.{MovImm, AluImm}
 use Rattle.lower.specs.Op.{Op, plain, map, ja, jne, Lowered, becomes, refused, insn, slotsOf, _▸_}
-use Rattle.lower.specs.Operand.{fits16, fits32, constant, move, add, call, onCell, load, addr, keep, mapAddress}
+use Rattle.lower.specs.Operand.{constant, move, add, call, onCell, load, addr, keep, mapAddress}
 use Rattle.lower.specs.Instruction.{sized, mem, operate, nullCheck}
 use Rattle.lower.specs.Held.{mapIn, held}
 use Rattle.lower.specs.Step.{firstOf}

@@ -5,11 +5,11 @@ use lib.Dec.{eqb}
 use lib.IntN.{ℤ}
 use Rattle.wire.specs.Le.{byteAt}
 use Rattle.wire.specs.Pick.{pick}
+use Rattle.wire.specs.Range.{fits32}
 use Rattle.ir.specs.declared.Operand.{Operand}
 use Rattle.ir.specs.declared.Operand.the-variants.{Var, Immediate}
 use Rattle.operand.specs.Operand.{operandIn}
 use Rattle.lower.specs.Op.{refused}
-use Rattle.lower.specs.Operand.{fits32}
 use Rattle.lower.specs.Held.{held}
 use Rattle.lower.specs.Step.{firstOf}
 use Rattle.lower.specs.declared.Reason.the-variants as Re

@@ -40,7 +40,7 @@ fn first(payload: &[u8], slots: u32) -> Emitted
     ensures { λ r. ⌜ r ≡ ofFirst (now (payload .entry)) slots ⌝ }
 {
     if wire::get_u8(payload, COUNT) == 0 {
-        return part::refused(Reason::Count(0));
+        return lower::refused(Reason::Count(0));
     }
     let a = operand::operand_in(payload, FIRST);
     part::takes(part::judge(Outcome::Fine, a), MapUse::Nothing, slots)
@@ -53,7 +53,7 @@ fn binary(payload: &[u8]) -> Emitted
 {
     let n = wire::get_u8(payload, COUNT);
     if n != 2 {
-        return part::refused(Reason::Count(n));
+        return lower::refused(Reason::Count(n));
     }
     let a = operand::operand_in(payload, FIRST);
     let b = operand::operand_in(payload, SECOND);
@@ -69,17 +69,17 @@ fn store(payload: &[u8]) -> Emitted
 {
     let n = wire::get_u8(payload, COUNT);
     if n != 2 {
-        return part::refused(Reason::Count(n));
+        return lower::refused(Reason::Count(n));
     }
     let a = operand::operand_in(payload, FIRST);
     let b = operand::operand_in(payload, SECOND);
     match part::judge(part::judge(Outcome::Fine, a), b) {
-        Outcome::Refused(reason) => part::refused(reason),
+        Outcome::Refused(reason) => lower::refused(reason),
         Outcome::Fine => {
             let size = wire::get_u8(payload, SMALL);
             match insn::stx_mem(size) {
                 MemCode::Code(_) => part::takes(Outcome::Fine, MapUse::Nothing, 3),
-                MemCode::Unsupported => part::refused(Reason::StoreSize(size)),
+                MemCode::Unsupported => lower::refused(Reason::StoreSize(size)),
             }
         }
     }
@@ -93,15 +93,12 @@ fn from_context(payload: &[u8]) -> Emitted
     match insn::ldx_mem(size) {
         MemCode::Code(_) => {
             let offset = wire::get_i32(payload, OFFSET);
-            if offset < -32768 {
-                return part::refused(Reason::Offset(offset));
+            if wire::range::fits16(offset as i64) {
+                return part::takes(Outcome::Fine, MapUse::Nothing, 2);
             }
-            if offset > 32767 {
-                return part::refused(Reason::Offset(offset));
-            }
-            part::takes(Outcome::Fine, MapUse::Nothing, 2)
+            lower::refused(Reason::Offset(offset))
         }
-        MemCode::Unsupported => part::refused(Reason::LoadSize(size)),
+        MemCode::Unsupported => lower::refused(Reason::LoadSize(size)),
     }
 }
 
@@ -109,7 +106,7 @@ fn copy_context(payload: &[u8]) -> Emitted
     ensures { λ r. ⌜ r ≡ sizeBy false (C.CopyCtxToMem (signedAt w32 (now (payload .entry)) 8) (unsignedAt w32 (now (payload .entry)) 12)) (now (payload .entry)) ⌝ }
 {
     if wire::get_u8(payload, COUNT) == 0 {
-        return part::refused(Reason::Count(0));
+        return lower::refused(Reason::Count(0));
     }
     let a = operand::operand_in(payload, FIRST);
     let size = Operand::Immediate(wire::get_u32(payload, NUMBER) as i64);
@@ -125,7 +122,7 @@ fn no_operands(payload: &[u8]) -> Emitted
 {
     let n = wire::get_u8(payload, COUNT);
     if n != 0 {
-        return part::refused(Reason::Count(n));
+        return lower::refused(Reason::Count(n));
     }
     part::takes(Outcome::Fine, MapUse::Nothing, 2)
 }
@@ -135,7 +132,7 @@ fn three_operands(payload: &[u8]) -> Emitted
 {
     let n = wire::get_u8(payload, COUNT);
     if n != 3 {
-        return part::refused(Reason::Count(n));
+        return lower::refused(Reason::Count(n));
     }
     let a = operand::operand_in(payload, FIRST);
     let b = operand::operand_in(payload, SECOND);
@@ -153,10 +150,10 @@ fn helper_call(payload: &[u8]) -> Emitted
         14 => no_operands(payload),
         15 => no_operands(payload),
         35 => no_operands(payload),
-        16 => part::refused(Reason::Helper16),
+        16 => lower::refused(Reason::Helper16),
         114 => three_operands(payload),
         115 => three_operands(payload),
-        _ => part::refused(Reason::Helper(id)),
+        _ => lower::refused(Reason::Helper(id)),
     }
 }
 
@@ -166,7 +163,7 @@ fn call_map(payload: &[u8]) -> Emitted
     ensures { λ r. ⌜ r ≡ sizeBy false (C.CallMap (unsignedAt w32 (now (payload .entry)) 12)) (now (payload .entry)) ⌝ }
 {
     if wire::get_u8(payload, COUNT) == 0 {
-        return part::refused(Reason::Count(0));
+        return lower::refused(Reason::Count(0));
     }
     let a = operand::operand_in(payload, FIRST);
     let map = MapUse::Map(wire::get_u32(payload, NUMBER));
@@ -182,7 +179,7 @@ fn update_map(payload: &[u8]) -> Emitted
 {
     let n = wire::get_u8(payload, COUNT);
     if n != 2 {
-        return part::refused(Reason::Count(n));
+        return lower::refused(Reason::Count(n));
     }
     let a = operand::operand_in(payload, FIRST);
     let b = operand::operand_in(payload, SECOND);

@@ -6,22 +6,10 @@ use lower::Outcome;
 use lower::Reason;
 ghost use mathlib.Core.Path.{_≡_};
 ghost use Prim.Native.Nat.{_≤_};
-ghost use Rattle.lower.specs.Op as Op;
-ghost use Rattle.lower.specs.Held.{held};
 ghost use Rattle.lower.specs.Step.{firstOf};
 ghost use Rattle.size.specs.Part.{takes, ofConstant, ofOperand, addressSlots, operateSlots};
 
 // ---- the answer
-
-pub fn refused(reason: Reason) -> Emitted
-    ensures { λ r. ⌜ r ≡ held (Op.refused reason) ⌝ }
-{
-    Emitted {
-        outcome: Outcome::Refused(reason),
-        map: MapUse::Nothing,
-        slots: 0,
-    }
-}
 
 // A map and so many slots, where nothing was refused.
 pub fn takes(outcome: Outcome, map: MapUse, slots: u32) -> Emitted
@@ -33,7 +21,7 @@ pub fn takes(outcome: Outcome, map: MapUse, slots: u32) -> Emitted
             map,
             slots,
         },
-        Outcome::Refused(reason) => refused(reason),
+        Outcome::Refused(reason) => lower::refused(reason),
     }
 }
 
@@ -43,13 +31,10 @@ pub fn takes(outcome: Outcome, map: MapUse, slots: u32) -> Emitted
 pub fn constant(z: i64) -> Outcome
     ensures { λ r. ⌜ r ≡ ofConstant z ⌝ }
 {
-    if z < -2147483648 {
-        return Outcome::Refused(Reason::Immediate(z));
+    if wire::range::fits32(z) {
+        return Outcome::Fine;
     }
-    if z > 2147483647 {
-        return Outcome::Refused(Reason::Immediate(z));
-    }
-    Outcome::Fine
+    Outcome::Refused(Reason::Immediate(z))
 }
 
 // The first refusal of what came before and of an operand.

@@ -1,9 +1,8 @@
 -- One step of the machine goes where a path goes, and writes what the path's mask says.
 use mathlib.Core.Path.{_≡_, refl}
 use mathlib.Core.Bool.{Bool, true, false}
-use mathlib.Core.Logic.{_↔_}
 use mathlib.Core.List.{List, [], _∷_}
-use Prim.Native.Nat.{ℕ, suc, _+_}
+use Prim.Native.Nat.{ℕ, suc}
 use native.Mathlib.Decide.{ℕ-discrete}
 use native.Mathlib.Numerals.{add-one, add-two}
 use native.Mathlib.Omega.{arith}
@@ -17,16 +16,15 @@ use Rattle.insn.specs.declared.form.Form.the-variants.{NoForm, WideLoad, Ldx, S
 use Rattle.shape.specs.Fields.{uses}
 use Rattle.shape.specs.Shape.{target}
 use Rattle.paths.specs.Registers.{Regs, atStart, with, called, after}
+use Rattle.paths.specs.Way.{Ahead, on as goes, jump as jumps}
 use Rattle.machine.specs.Word.{word}
 use Rattle.machine.specs.Memory.{Memory, reg}
 use Rattle.machine.specs.Turn.{Answer, Effect, keeps, writes, frame, calls, Out, on, returns, stuck, Turn, jump, turnOf, given}
 use Rattle.machine.proofs.Tests.{by-test}
 use Rattle.sound.specs.Written.{Written, Wrote, Took, context, pointer, now, since}
+use Rattle.sound.specs.OnWay.{Tells}
 
 -- ---- a path's mask tells what the run has written
-
-pub record Tells (k : Regs) (h : List Effect) : Type 0 where
-  pub at : (r : ℕ) → (k r ≡ true) ↔ Written r h
 
 pub tells-first : Tells atStart []
 unfolding atStart
@@ -88,11 +86,6 @@ module _ {k : Regs} {h : List Effect} (T : Tells k h) where
 
 -- ---- where a step leads
 
--- the slots to which a path goes from an instruction i of form f at slot s
-pub data Ahead (f : Form) (i : Insn) (s : ℕ) : ℕ → Type 0 where
-  goes : {n : ℕ} → uses f .goes-on ≡ suc n → Ahead f i s (s + suc n)
-  jumps : {t : ℕ} → uses f .jumps ≡ true → target s (i .off) ≡ pos t → Ahead f i s t
-
 -- on at a slot to which a path goes, with what the path's mask then tells; or to an end
 abbrev pub Leads : Form → Insn → ℕ → Out → Type 0
 Leads f i s (on t e) = Ahead f i s t × ((k : Regs) (h : List Effect) → Tells k h → Tells (after f i k) (e ∷ h))
@@ -127,23 +120,23 @@ module _ (i : Insn) (s : ℕ) where
   unfolding uses after
   wide v = (rw (← (add-two s)) (goes refl), λ k h T. wrote T (i .dst) v)
 
-  pub leads : (f : Form) (high : ℤ) (a : Answer) (m : Memory) → (f ≡ NoForm → ⊥) → Lands f → Leads f i s (given a (turnOf f i high s m))
+  pub leads : (p : ℕ) (f : Form) (high : ℤ) (a : Answer) (m : Memory) → (f ≡ NoForm → ⊥) → Lands f → Leads f i s (given a (turnOf p f i high s m))
   unfolding uses after turnOf given
-  leads NoForm high a m some l = absurd (some refl)
-  leads WideLoad high a m some l = by-test (λ (t : Turn). Leads WideLoad i s (given a t)) (eqb (i .src) 0) _ _ (wide _) (wide _)
-  leads (Ldx w) high a m some l =
+  leads p NoForm high a m some l = absurd (some refl)
+  leads p WideLoad high a m some l = by-test (λ (t : Turn). Leads WideLoad i s (given a t)) (eqb (i .src) 0) _ _ (wide _) (wide _)
+  leads p (Ldx w) high a m some l =
       by-test (λ (t : Turn). Leads (Ldx w) i s (given a t)) (eqb (i .src) 10) _ _ (write (Ldx w) refl (λ k. refl) _) (write (Ldx w) refl (λ k. refl) _)
-  leads (Stx w) high a m some l =
+  leads p (Stx w) high a m some l =
       let stores : (c : ℕ → ℕ) → Leads (Stx w) i s (on (suc s) (frame c)) = λ c. keep (Stx w) (λ k. refl) (frame c) (λ r z. z) (λ r z. z) (suc s) (one (Stx w) refl) in
       by-test (λ (t : Turn). Leads (Stx w) i s (given a t)) (eqb (i .dst) 10) _ _ (stores _) (stores _)
-  leads (AluImm o) high a m some l = write (AluImm o) refl (λ k. refl) _
-  leads (AluReg o) high a m some l = write (AluReg o) refl (λ k. refl) _
-  leads MovImm high a m some l = write MovImm refl (λ k. refl) _
-  leads MovReg high a m some l = write MovReg refl (λ k. refl) _
-  leads Ja high a m some l = land Ja (λ k. refl) refl l
-  leads JeqImm high a m some l =
-      by-test (Leads JeqImm i s) (eqb (reg m (i .dst)) (word (i .imm))) (jump (target s (i .off))) (on (suc s) keeps) (land JeqImm (λ k. refl) refl l) (fall JeqImm (λ k. refl) refl)
-  leads JneImm high a m some l =
-      by-test (Leads JneImm i s) (eqb (reg m (i .dst)) (word (i .imm))) (on (suc s) keeps) (jump (target s (i .off))) (fall JneImm (λ k. refl) refl) (land JneImm (λ k. refl) refl l)
-  leads Call high a m some l = (one Call refl, λ k h T. has-called T a)
-  leads Exit high a m some l = tt
+  leads p (AluImm o) high a m some l = write (AluImm o) refl (λ k. refl) _
+  leads p (AluReg o) high a m some l = write (AluReg o) refl (λ k. refl) _
+  leads p MovImm high a m some l = write MovImm refl (λ k. refl) _
+  leads p MovReg high a m some l = write MovReg refl (λ k. refl) _
+  leads p Ja high a m some l = land Ja (λ k. refl) refl l
+  leads p JeqImm high a m some l =
+      by-test (Leads JeqImm i s) (eqb (reg p m (i .dst)) (word (i .imm))) (jump (target s (i .off))) (on (suc s) keeps) (land JeqImm (λ k. refl) refl l) (fall JeqImm (λ k. refl) refl)
+  leads p JneImm high a m some l =
+      by-test (Leads JneImm i s) (eqb (reg p m (i .dst)) (word (i .imm))) (on (suc s) keeps) (jump (target s (i .off))) (fall JneImm (λ k. refl) refl) (land JneImm (λ k. refl) refl l)
+  leads p Call high a m some l = (one Call refl, λ k h T. has-called T a)
+  leads p Exit high a m some l = tt

@@ -1,26 +1,28 @@
--- The tables of registers agree with the machine: a step looks at no register but those that it reads, and changes none but those that it wrote or left unreadable.
+-- The tables of registers agree with the machine: what an instruction shows and does hangs on no register but those that it reads, and it changes none but those that it wrote or left unreadable.
 use mathlib.Core.Path.{_≡_, refl}
 use mathlib.Core.Bool.{Bool, true, false}
 use mathlib.Core.List.{List}
-use Prim.Native.Nat.{ℕ, suc, _<_}
+use Prim.Native.Nat.{ℕ, zero, suc, _≤_, _<_}
 use native.Mathlib.Decide.{decLt}
 use native.Mathlib.Omega.{arith}
 use lib.Dec.{eqb, leb}
 use lib.IntN.{ℤ}
 use borrow.Author.Tests.{eq-eqb, eqb-true, leb-true}
 use Rattle.wire.specs.Pick.{pick, either}
+use Rattle.insn.specs.Helper.{helperOf, arguments}
+use Rattle.insn.proofs.Helpers.{at-most-four}
 use Rattle.insn.specs.declared.Insn.{Insn}
 use Rattle.insn.specs.declared.form.Form.{Form}
 use Rattle.insn.specs.declared.form.Form.the-variants.{NoForm, WideLoad, Ldx, Stx, AluImm, AluReg, MovImm, MovReg, Ja, JeqImm, JneImm, Call, Exit}
 use Rattle.shape.specs.Code.{at, formAt}
-use Rattle.paths.specs.Registers.{reads}
-use Rattle.machine.specs.Memory.{Memory, reg}
-use Rattle.machine.specs.Turn.{Answer, Effect, keeps, writes, frame, calls, after, Turn, turnOf, turn, given, step}
+use Rattle.paths.specs.Registers.{argument, reads}
+use Rattle.machine.specs.Memory.{Memory, reg, address}
+use Rattle.machine.specs.Turn.{Answer, Effect, keeps, writes, frame, calls, after, Turn, firstOf, turnOf, turn}
 use Rattle.sound.specs.Written.{Wrote, Took}
 
-same-test : (a : Answer) (x : Bool) (p q p' q' : Turn) → given a p ≡ given a p' → given a q ≡ given a q' → given a (pick x p q) ≡ given a (pick x p' q')
-same-test a true p q p' q' e f = e
-same-test a false p q p' q' e f = f
+same-test : (x : Bool) {t u t' u' : Turn} → t ≡ t' → u ≡ u' → pick x t u ≡ pick x t' u'
+same-test true e f = e
+same-test false e f = f
 
 -- of two registers each is read
 first : (x y : ℕ) → either (eqb x x) (eqb x y) ≡ true
@@ -33,13 +35,26 @@ second x y = rw (eq-eqb y y refl) (go (eqb y x))
     go true = refl
     go false = refl
 
-module _ (i : Insn) (high : ℤ) (s : ℕ) (a : Answer) (m n : Memory) (C : m .cells ≡ n .cells) where
-  looks : (f : Form) → ((r : ℕ) → reads f i r ≡ true → reg m r ≡ reg n r) → given a (turnOf f i high s m) ≡ given a (turnOf f i high s n)
-  unfolding reads turnOf given
+module _ (i : Insn) (high : ℤ) (s p q : ℕ) (m n : Memory) (C : m .cells ≡ n .cells) where
+  -- the first registers from R1 on
+  same-first : (k : ℕ) → k ≤ 4 → ((r : ℕ) → argument k r ≡ true → reg p m r ≡ reg q n r) → firstOf m k ≡ firstOf n k
+  unfolding argument firstOf
+  same-first zero l h = refl
+  same-first (suc zero) l h = rw (h 1 refl)
+  same-first (suc (suc zero)) l h = rw (h 1 refl, h 2 refl)
+  same-first (suc (suc (suc zero))) l h = rw (h 1 refl, h 2 refl, h 3 refl)
+  same-first (suc (suc (suc (suc zero)))) l h = rw (h 1 refl, h 2 refl, h 3 refl, h 4 refl)
+  same-first (suc (suc (suc (suc (suc k))))) l h = absurd (omega arith)
+
+  looks : (f : Form) → ((r : ℕ) → reads f i r ≡ true → reg p m r ≡ reg q n r) → turnOf p f i high s m ≡ turnOf q f i high s n
+  unfolding reads turnOf address
   looks NoForm h = refl
   looks WideLoad h = refl
-  looks (Ldx w) h = same-test a (eqb (i .src) 10) _ _ _ _ (rw C) refl
-  looks (Stx w) h = same-test a (eqb (i .dst) 10) _ _ _ _ (rw (C, h (i .src) (second (i .dst) (i .src)))) (rw C)
+  looks (Ldx w) h = same-test (eqb (i .src) 10) (rw C) (rw (h (i .src) (eq-eqb (i .src) (i .src) refl)))
+  looks (Stx w) h =
+      let D = h (i .dst) (first (i .dst) (i .src)) in
+      let S = h (i .src) (second (i .dst) (i .src)) in
+      same-test (eqb (i .dst) 10) (rw (C, S)) (rw (C, D, S))
   looks (AluImm o) h = rw (h (i .dst) (eq-eqb (i .dst) (i .dst) refl))
   looks (AluReg o) h = rw (h (i .dst) (first (i .dst) (i .src)), h (i .src) (second (i .dst) (i .src)))
   looks MovImm h = refl
@@ -47,14 +62,14 @@ module _ (i : Insn) (high : ℤ) (s : ℕ) (a : Answer) (m n : Memory) (C : m .c
   looks Ja h = refl
   looks JeqImm h = rw (h (i .dst) (eq-eqb (i .dst) (i .dst) refl))
   looks JneImm h = rw (h (i .dst) (eq-eqb (i .dst) (i .dst) refl))
-  looks Call h = refl
+  looks Call h = rw (same-first (arguments (helperOf (i .imm))) (at-most-four (i .imm)) h, C)
   looks Exit h = rw (h 0 refl)
 
--- what a step does hangs on no other register
-pub looks-at : (b : List ℕ) (s : ℕ) (a : Answer) (m n : Memory) → m .cells ≡ n .cells → ((r : ℕ) → reads (formAt b s) (at b s) r ≡ true → reg m r ≡ reg n r)
-    → step (at b) a s m ≡ step (at b) a s n
-unfolding step turn formAt
-looks-at b s a m n C h = looks (at b s) (at b (suc s) .imm) s a m n C (formAt b s) h
+-- what an instruction shows and does hangs on no other register, R10 among them
+pub looks-at : (b : List ℕ) (s p q : ℕ) (m n : Memory) → m .cells ≡ n .cells → ((r : ℕ) → reads (formAt b s) (at b s) r ≡ true → reg p m r ≡ reg q n r)
+    → turn p (at b) s m ≡ turn q (at b) s n
+unfolding turn formAt
+looks-at b s p q m n C h = looks (at b s) (at b (suc s) .imm) s p q m n C (formAt b s) h
 
 pub changes : (e : Effect) (m : Memory) (r : ℕ) → (Wrote e r → ⊥) → (Took e r → ⊥) → after e m .regs r ≡ m .regs r
 unfolding after

@@ -4,8 +4,8 @@ use mathlib.Core.List.{List}
 use Prim.Native.Nat.{ℕ, _≤_}
 use native.Mathlib.Omega.{arith}
 use lib.ListN.{length}
-use Rattle.unitfile.specs.Records.{records, recordsFrom}
-use Rattle.unitfile.specs.Unit.{parse, readUnit, firstBlock}
+use Rattle.unitfile.specs.Records.{records, atBlock, recordsFrom}
+use Rattle.unitfile.specs.Unit.{parse, readUnit}
 use Rattle.unitfile.specs.declared.Found.{Found}
 use Rattle.unitfile.specs.declared.ReadUnit.{ReadUnit}
 use Rattle.unitfile.specs.declared.ReadUnit.the-variants as U
@@ -17,7 +17,7 @@ use Rattle.survey.specs.Surveyed.{blocksOf}
 -- a unit that was read whole
 module _ (b : List ℕ) (found : Found) (e : readUnit b ≡ U.Unit found) where
   -- its blocks' records are those that were read
-  pub blocks-flat : recordsFrom b (found .maps) (firstBlock (found .blocks) (found .body)) ≡ records (flat (blocksOf (parse b)))
+  pub blocks-flat : recordsFrom b (found .maps) (atBlock (found .body) (found .blocks)) ≡ records (flat (blocksOf (parse b)))
   unfolding blocksOf
   blocks-flat = let u = unit-of b found e in rw (u .parsed-as) (u .body)
 

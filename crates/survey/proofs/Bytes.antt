@@ -13,18 +13,18 @@ use Rattle.ir.specs.declared.Instruction.{Instruction}
 use Rattle.ir.specs.declared.Terminator.the-variants.{Return, Jump, Branch}
 use Rattle.operand.specs.Operand.{operandIn}
 use Rattle.record.specs.Frame.{kindAt}
-use Rattle.record.specs.Instruction.{countAt}
+use Rattle.record.specs.Instruction.{countIn}
 use Rattle.unitfile.specs.Unit.{PlacedInstruction}
-use Rattle.peek.specs.Terminator.{terminatorIn}
-use Rattle.peek.proofs.Peeking.{InstructionAt}
+use Rattle.recordparts.specs.Terminator.{terminatorIn}
+use Rattle.recordparts.specs.Stands.{InstructionAt}
 use Rattle.survey.specs.Occurrences.{Occurrence, ofOperand, ofInstruction, ofInstructions, ofTerminator}
 use Rattle.survey.specs.Inner.{ofInstructionIn, ofTerminatorIn, Names, done, next}
-use Rattle.survey.proofs.Standing as standing
-use Rattle.survey.proofs.Standing.{Chain}
+use Rattle.survey.specs.Standing as standing
+use Rattle.survey.specs.Standing.{Chain}
 
 module _ (b : List ℕ) (place : ℕ) where
   instruction-names : (i : Instruction) → InstructionAt b place i → ofInstructionIn b place ≡ ofInstruction place i
-  unfolding ofInstructionIn ofInstruction ofOperand countAt
+  unfolding ofInstructionIn ofInstruction ofOperand countIn
   instruction-names i p =
       let count : place + 4 + 6 ≡ place + 10 = omega arith in
       rw (p .result, p .list, count)

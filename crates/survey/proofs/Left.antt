@@ -8,7 +8,7 @@ use lib.Seq.{sets, length-sets}
 use mir.Syntax.{w32}
 use Rattle.wire.specs.Le.{unsignedAt}
 use Rattle.record.specs.Frame.{nextAt}
-use Rattle.frame.proofs.Sorted as frame
+use Rattle.frame.specs.Variables as frame
 use Rattle.unitfile.specs.Unit.{BasicBlock, parse, readUnit}
 use Rattle.unitfile.specs.declared.Found.{Found}
 use Rattle.unitfile.specs.declared.ReadUnit.the-variants as U
@@ -19,7 +19,8 @@ use Rattle.survey.specs.Inner.{gathered, further, used, Holds, Takes, of
 use Rattle.survey.specs.declared.occurrences.Tally.{Tally}
 use Rattle.survey.specs.declared.pass.Going.{Going}
 use Rattle.survey.proofs.Bytes.{terminator-names, chain-names}
-use Rattle.survey.proofs.Standing.{BlockAt, Standing, none, more, standing}
+use Rattle.survey.specs.Standing.{BlockAt, Standing, none, more}
+use Rattle.survey.proofs.Standing.{standing}
 use Rattle.survey.proofs.Tallies.{nothing, then, answer, afterwards}
 
 abbrev blocks : List ℕ → List BasicBlock

@@ -9,3 +9,4 @@ pub mod Answers
 pub mod Sorted
 pub mod Among
 pub mod Fronts
+pub mod TooMany

@@ -4,43 +4,22 @@ use mathlib.Core.List.{List, [], _∷_, _++_, map}
 use Prim.Native.Nat.{ℕ, _+_, _<_, _≤_}
 use native.Mathlib.Omega.{arith}
 use lib.ListN.{length}
-use mir.Syntax.{w32}
-use Rattle.wire.specs.Le.{unsignedAt}
 use Rattle.ir.specs.declared.Instruction.{Instruction}
 use Rattle.ir.specs.declared.Terminator.{Terminator}
 use Rattle.record.specs.Frame.{nextAt}
 use Rattle.record.specs.declared.Record.the-variants as R
-use Rattle.unitfile.specs.Records.{Placed, records, recordsFrom}
-use Rattle.unitfile.specs.Unit.{PlacedInstruction, BasicBlock, parse, readUnit, firstBlock}
-use Rattle.unitfile.specs.declared.Cursor.{Cursor}
+use Rattle.unitfile.specs.Records.{Cursor, Placed, records, atBlock, recordsFrom}
+use Rattle.unitfile.specs.Unit.{PlacedInstruction, BasicBlock, parse, readUnit}
 use Rattle.unitfile.specs.declared.Found.{Found}
 use Rattle.unitfile.specs.declared.ReadUnit.the-variants as U
 use Rattle.unitfile.proofs.Blocks.{blockRecord, instructionRecord, terminatorRecord, onto, flat}
-use Rattle.peek.proofs.Peeking.{InstructionAt, TerminatorAt, block-in, instruction-in, terminator-in}
+use Rattle.recordparts.specs.Stands.{InstructionAt, TerminatorAt}
+use Rattle.recordparts.proofs.InBytes.{block-in, instruction-in, terminator-in}
 use Rattle.unitfile.proofs.Run.{later, came}
 use Rattle.unitfile.proofs.Sizes.{payloadSize, step-size}
 use Rattle.survey.specs.Surveyed.{blocksOf}
+use Rattle.survey.specs.Standing.{Chain, done, next, BlockAt, Standing, none, more}
 use Rattle.survey.proofs.Bounds.{blocks-flat}
-
--- the instructions stand one after the other from a byte to the byte end
-pub data Chain (b : List ℕ) (end : ℕ) : ℕ → List PlacedInstruction → Type 0 where
-  done : Chain b end end []
-  next : {at : ℕ} {i : Instruction} {is : List PlacedInstruction} → InstructionAt b at i → at < end → Chain b end (nextAt b at) is → Chain b end at (record { place = at; instruction = i } ∷ is)
-
--- the block k, whose record begins at a byte
-pub record BlockAt (b : List ℕ) (at : ℕ) (k : BasicBlock) : Type 0 where
-  pub place : k .place ≡ at
-  pub id : k .id ≡ unsignedAt w32 b (at + 4)
-  pub begins : nextAt b at ≡ at + 8
-  pub chain : Chain b (k .ending) (at + 8) (k .instructions)
-  pub ends : TerminatorAt b (k .ending) (k .terminator)
-  pub within : at + 8 ≤ k .ending
-  pub after : nextAt b (k .ending) ≤ length b
-
--- the blocks stand one after the other from a byte on
-pub data Standing (b : List ℕ) : ℕ → List BasicBlock → Type 0 where
-  none : {at : ℕ} → Standing b at []
-  more : {at : ℕ} {k : BasicBlock} {ks : List BasicBlock} → BlockAt b at k → Standing b (nextAt b (k .ending)) ks → Standing b at (k ∷ ks)
 
 -- ---- step by step
 
@@ -171,5 +150,4 @@ module _ (b : List ℕ) (maps : ℕ) where
 
 -- the blocks of a unit that was read
 pub standing : (b : List ℕ) (found : Found) → readUnit b ≡ U.Unit found → Standing b (found .body) (blocksOf (parse b))
-unfolding firstBlock
-standing b found e = stands b (found .maps) (blocksOf (parse b)) (firstBlock (found .blocks) (found .body)) (blocks-flat b found e)
+standing b found e = stands b (found .maps) (blocksOf (parse b)) (atBlock (found .body) (found .blocks)) (blocks-flat b found e)

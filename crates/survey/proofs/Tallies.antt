@@ -11,10 +11,10 @@ use lib.Dec.{eqb, leb, ltb}
 use lib.ListN.{length, take, drop, take-append-drop, drop-of-length-le}
 use lib.Seq.{sets, sets-eq, length-sets, length-take-le, take-all, take-at, drop-at, drop-drop}
 use Rattle.wire.specs.Pick.{pick}
-use Rattle.frame.specs.Variables.{insert, insertedAnswer, insertedList}
+use Rattle.frame.specs.Variables.{Sorted, insert, insertedAnswer, insertedList}
 use Rattle.frame.specs.Hint.{indexBy}
 use Rattle.frame.specs.declared.Inserted.the-variants as I
-use Rattle.frame.proofs.Sorted.{Sorted, insert-there}
+use Rattle.frame.proofs.Sorted.{insert-there}
 use Rattle.frame.proofs.Hints.{index-stands}
 use Rattle.operand.specs.Operand.{operandIn, operandsIn}
 use Rattle.unitfile.specs.declared.Found.{Found}
@@ -63,7 +63,7 @@ unfolding further
 either-way true a b place vs ps e = e
 either-way false a b place vs ps e = refl
 
-collect-append : (vs : List ℕ) (os ps : List Occurrence) → collect vs (os ++ ps) ≡ further (collect vs os) ps
+pub collect-append : (vs : List ℕ) (os ps : List Occurrence) → collect vs (os ++ ps) ≡ further (collect vs os) ps
 unfolding further collect
 collect-append vs [] ps = refl
 collect-append vs (o ∷ os) ps = either-way (leb (length (insert (o .variable) vs)) 56) _ _ (o .place) vs ps (collect-append (insert (o .variable) vs) os ps)

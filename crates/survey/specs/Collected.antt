@@ -1,10 +1,10 @@
 -- The distinct variables, sorted ascending; 10 for more than 56 of them, at the record bringing the 57th.
-use Prim.Native.Nat.{ℕ}
+use Prim.Native.Nat.{ℕ, _≤_}
 use mathlib.Core.List.{List, [], _∷_}
 use lib.Dec.{leb}
 use lib.ListN.{length}
 use Rattle.wire.specs.Pick.{pick}
-use Rattle.frame.specs.Variables.{insert}
+use Rattle.frame.specs.Variables.{Sorted, insert}
 use Rattle.unitfile.specs.Unit.{BasicBlock}
 use Rattle.survey.specs.Occurrences.{Occurrence, occurrences}
 
@@ -20,3 +20,8 @@ collect variables (o ∷ os) =
 
 unfoldable pub collected : List BasicBlock → Collected
 collected bs = collect [] (occurrences bs)
+
+-- sorted, and at most 56
+pub record Fits (l : List ℕ) : Type 0 where
+  pub sorted : Sorted l
+  pub few : length l ≤ 56

@@ -9,7 +9,7 @@ use Rattle.wire.specs.Pick.{pick}
 use Rattle.wire.specs.Le.{byteAt, unsignedAt}
 use Rattle.ir.specs.declared.Operand.the-variants.{Var}
 use Rattle.operand.specs.Operand.{operandIn, operandsIn}
-use Rattle.frame.proofs.Sorted.{Sorted}
+use Rattle.frame.specs.Variables.{Sorted}
 use Rattle.record.specs.Frame.{kindAt, nextAt}
 use Rattle.unitfile.specs.declared.Found.{Found}
 use Rattle.survey.specs.Occurrences.{Occurrence, ofOperand, ofOperands}

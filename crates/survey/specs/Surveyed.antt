@@ -3,8 +3,7 @@ use Prim.Native.Nat.{ℕ}
 use mathlib.Core.List.{List, [], _∷_}
 use lib.ListN.{length}
 use lib.Seq.{sets}
-use Rattle.record.specs.declared.Head.{Head}
-use Rattle.unitfile.specs.Unit.{UnitIr, BasicBlock, Parsed, parsed, refused, parse, readUnit}
+use Rattle.unitfile.specs.Unit.{BasicBlock, Parsed, parsed, refused, parse, readUnit}
 use Rattle.unitfile.specs.declared.Found.{Found}
 use Rattle.unitfile.specs.declared.ReadUnit.{ReadUnit}
 use Rattle.unitfile.specs.declared.ReadUnit.the-variants as U

@@ -6,7 +6,6 @@ use record::Fault;
 use unitfile::Found;
 use unitfile::ReadUnit;
 ghost use mathlib.Core.Path.{_≡_};
-ghost use lib.ListN.{length};
 ghost use Rattle.survey.specs.Surveyed.{surveyed, surveyedVariables, surveyedIds, surveyedEndings};
 
 // The unit that was found and how many variables it has, the reading refusal, or the place of the record bringing the 57th variable.
@@ -15,11 +14,6 @@ pub enum Survey {
     Refused(Fault),
     TooMany(usize),
 }
-
-// What an array's copy shows of a lent one: how long it is.
-fn fixed(variables: [u32; 56])
-    ensures { λ _. ⌜ length variables ≡ 56 ⌝ }
-{}
 
 pub fn survey_unit(
     unit: &[u8],
@@ -32,7 +26,7 @@ pub fn survey_unit(
     ensures { λ _. ⌜ now (ids .exit) ≡ surveyedIds (now (unit .entry)) (now (ids .entry)) ⌝ }
     ensures { λ _. ⌜ now (endings .exit) ≡ surveyedEndings (now (unit .entry)) (now (endings .entry)) ⌝ }
 {
-    fixed(*variables);
+    frame::fixed(*variables);
     match unitfile::read_unit(unit) {
         ReadUnit::Unit(found) => pass::survey_blocks(unit, found, variables, ids, endings),
         ReadUnit::Refused(f) => Survey::Refused(f),

@@ -9,7 +9,7 @@ use borrow.Author.Tests.{lt-ltb, le-ltb, ltb-true, ltb-false}
 use lib.Dec.{ltb}
 use lib.ListN.{length, getD, length-append, List·getD-append}
 use Rattle.wire.specs.Pick.{pick}
-use Rattle.text.specs.Digits.{digit, digitsOf, decimal}
+use Rattle.text.specs.Digits.{digit, digitsOf, decimal, valueFrom, valueOf}
 
 low-digit : (d : ℕ) → d < 10 → digit d ≡ 48 + d
 unfolding digit
@@ -65,15 +65,33 @@ pub at-most-20 : (n : ℕ) → length (decimal n) ≤ 20
 unfolding decimal
 at-most-20 n = digits-most 20 n
 
--- ---- the digits say the number, and the first is no zero
+-- ---- the digits are bytes 48 to 57, they say the number, and the first is no zero
 
-abbrev valueFrom : ℕ → List ℕ → ℕ
-valueFrom v [] = v
-valueFrom v (d ∷ l) = valueFrom (10 * v + (d - 48)) l
+abbrev IsDigit : ℕ → Type 0
+IsDigit d = (48 ≤ d) × (d ≤ 57)
 
--- the number that decimal digits say
-abbrev pub valueOf : List ℕ → ℕ
-valueOf l = valueFrom 0 l
+low-is-digit : (d : ℕ) → d < 10 → IsDigit (digit d)
+low-is-digit d h = rw (low-digit d h) (omega arith, omega arith)
+
+last-digit : (l : List ℕ) (d : ℕ) → ((i : ℕ) → i < length l → IsDigit (getD l i 0)) → IsDigit d → (i : ℕ) → i < length (l ++ (d ∷ [])) → IsDigit (getD (l ++ (d ∷ [])) i 0)
+last-digit [] d h s zero r = s
+last-digit [] d h s (suc i) r = absurd (omega arith)
+last-digit (x ∷ l) d h s zero r = h 0 (omega arith)
+last-digit (x ∷ l) d h s (suc i) r = last-digit l d (λ k q. h (suc k) (omega arith)) s i (omega arith)
+
+all-digits : (k n i : ℕ) → i < length (digitsOf k n) → IsDigit (getD (digitsOf k n) i 0)
+unfolding digitsOf
+all-digits zero n i r = absurd (omega arith)
+all-digits (suc k) n i r = go (ltb n 10) refl (digitsOf k (n / 10)) (all-digits k (n / 10)) i r
+  where
+    go : (t : Bool) → ltb n 10 ≡ t → (l : List ℕ) → ((i : ℕ) → i < length l → IsDigit (getD l i 0))
+        → (i : ℕ) → i < length (pick t (digit n ∷ []) (l ++ (digit (n % 10) ∷ []))) → IsDigit (getD (pick t (digit n ∷ []) (l ++ (digit (n % 10) ∷ []))) i 0)
+    go true e l h = last-digit [] (digit n) (λ i r. absurd (omega arith)) (low-is-digit n (ltb-true n 10 e))
+    go false e l h = last-digit l (digit (n % 10)) h (low-is-digit (n % 10) (omega arith))
+
+pub decimal-digits : (n i : ℕ) → i < length (decimal n) → (48 ≤ getD (decimal n) i 0) × (getD (decimal n) i 0 ≤ 57)
+unfolding decimal
+decimal-digits n = all-digits 20 n
 
 value-last : (l : List ℕ) (d v : ℕ) → valueFrom v (l ++ (d ∷ [])) ≡ 10 * valueFrom v l + (d - 48)
 value-last [] d v = refl

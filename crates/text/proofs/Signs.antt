@@ -11,10 +11,11 @@ use mir.Syntax.{w64}
 use mir.Val.{SFits, toZ, ofZ}
 use mir.ValLaws.{toZ-ofZ}
 use Rattle.wire.proofs.Sign.{Flipped}
+use Rattle.text.specs.Ascii.{ascii}
 use Rattle.text.specs.Digits.{sign}
 
 pub minus : (z : ℤ) → SFits w64 z → ltZ (toZ w64 (ofZ w64 z)) (pos 0) ≡ true → sign z ≡ 45 ∷ []
-unfolding sign
+unfolding sign ascii
 minus (pos n) f t = absurd (omega (arith, ltb-true n 0 (rw (toZ-ofZ w64 (pos n) f) at t)))
 minus (negsuc n) f t = refl
 

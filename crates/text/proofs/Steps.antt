@@ -25,7 +25,7 @@ nothing b i = go (leb (i + 0) (length b))
     go false = refl
 
 -- the first byte is set, the rest are left
-pub first-set : (b : List ℕ) (i a : ℕ) (v : List ℕ) → i + suc (length v) ≤ length b → store (set b i a) (i + 1) v ≡ store b i (a ∷ v)
+first-set : (b : List ℕ) (i a : ℕ) (v : List ℕ) → i + suc (length v) ≤ length b → store (set b i a) (i + 1) v ≡ store b i (a ∷ v)
 first-set b i a v h =
     store-in (set b i a) (i + 1) v (simp length-set (omega arith))
     ∙ ap (λ (j : ℕ). sets (set b i a) j v) (add-one i)

@@ -1,2 +1,4 @@
+pub mod Ascii
 pub mod Digits
 pub mod Lines
+pub mod Known

@@ -10,16 +10,19 @@ use pieces::put_sign;
 use pieces::put_word;
 use pieces::sign_length;
 use wire::lies;
+use wire::number::ByteOffset;
+use wire::number::SlotNumber;
+use wire::number::byte_offset;
 use wire::refusal::Refusal;
 ghost use mathlib.Core.Path.{_≡_};
 ghost use Rattle.wire.specs.Le.{store};
 ghost use Rattle.text.specs.Lines.{after, slotBytes, countsLine, slotLine, relocLine, refusedLine};
 
-pub fn put_counts(out: &mut [u8], at: usize, slots: u32, relocs: u32) -> usize
-    ensures { λ r. ⌜ r ≡ after (now (out .entry)) at (countsLine slots relocs) ⌝ }
-    ensures { λ _. ⌜ now (out .exit) ≡ store (now (out .entry)) at (countsLine slots relocs) ⌝ }
+pub fn put_counts(out: &mut [u8], at: usize, slots: SlotNumber, relocs: u32) -> usize
+    ensures { λ r. ⌜ r ≡ after (now (out .entry)) at (countsLine (slots .0) relocs) ⌝ }
+    ensures { λ _. ⌜ now (out .exit) ≡ store (now (out .entry)) at (countsLine (slots .0) relocs) ⌝ }
 {
-    let first = slots as u64;
+    let first = slots.0 as u64;
     let second = relocs as u64;
     let len = out.len();
     if lies(at, 15 + digits(first) + digits(second), len) {
@@ -33,26 +36,27 @@ pub fn put_counts(out: &mut [u8], at: usize, slots: u32, relocs: u32) -> usize
 }
 
 // The slot of that number in the code.
-pub fn put_slot(out: &mut [u8], at: usize, slot: u32, code: &[u8]) -> usize
-    ensures { λ r. ⌜ r ≡ after (now (out .entry)) at (slotLine slot (slotBytes (now (code .entry)) slot)) ⌝ }
-    ensures { λ _. ⌜ now (out .exit) ≡ store (now (out .entry)) at (slotLine slot (slotBytes (now (code .entry)) slot)) ⌝ }
+pub fn put_slot(out: &mut [u8], at: usize, slot: SlotNumber, code: &[u8]) -> usize
+    ensures { λ r. ⌜ r ≡ after (now (out .entry)) at (slotLine (slot .0) (slotBytes (now (code .entry)) (slot .0))) ⌝ }
+    ensures { λ _. ⌜ now (out .exit) ≡ store (now (out .entry)) at (slotLine (slot .0) (slotBytes (now (code .entry)) (slot .0))) ⌝ }
 {
-    let number = slot as u64;
+    let number = slot.0 as u64;
     let len = out.len();
     if lies(at, 18 + digits(number), len) {
         let mut end = put_decimal(out, at, number);
         end = put_word(out, end, b" ");
-        end = put_hex(out, end, wire::get_u64(code, 8 * (slot as usize)));
+        let ByteOffset(place) = byte_offset(slot);
+        end = put_hex(out, end, wire::get_u64(code, place as usize));
         return put_word(out, end, b"\n");
     }
     at
 }
 
-pub fn put_reloc(out: &mut [u8], at: usize, offset: u32, name: &[u8]) -> usize
-    ensures { λ r. ⌜ r ≡ after (now (out .entry)) at (relocLine offset (now (name .entry))) ⌝ }
-    ensures { λ _. ⌜ now (out .exit) ≡ store (now (out .entry)) at (relocLine offset (now (name .entry))) ⌝ }
+pub fn put_reloc(out: &mut [u8], at: usize, offset: ByteOffset, name: &[u8]) -> usize
+    ensures { λ r. ⌜ r ≡ after (now (out .entry)) at (relocLine (offset .0) (now (name .entry))) ⌝ }
+    ensures { λ _. ⌜ now (out .exit) ≡ store (now (out .entry)) at (relocLine (offset .0) (now (name .entry))) ⌝ }
 {
-    let number = offset as u64;
+    let number = offset.0;
     let len = out.len();
     if lies(at, name.len(), len) {
         if lies(at + name.len(), 8 + digits(number), len) {

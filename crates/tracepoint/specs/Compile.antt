@@ -1,10 +1,11 @@
 -- `compile_tracepoint`: the answer and both buffers at exit.
-use Prim.Native.Nat.{ℕ, _*_, _/_}
+use Prim.Native.Nat.{ℕ, _/_}
 use mathlib.Core.List.{List, []}
 use lib.Dec.{leb}
 use lib.IntN.{ℤ, pos}
 use lib.ListN.{length}
 use lib.Seq.{sets}
+use Rattle.wire.specs.Number.{bytesBefore}
 use Rattle.wire.specs.Pick.{pick}
 use Rattle.wire.specs.declared.refusal.Refusal.{Refusal}
 use Rattle.record.specs.Record as reading
@@ -79,9 +80,9 @@ loweringOf (refused f) = faulty (F.Reading f)
 unfoldable pub roomed : ℕ → ℕ → Lowering → Compiled
 roomed code relocs (faulty f) = A.Refused f
 roomed code relocs (lowered xs l) =
-    pick (leb (8 * slotsOf l) code)
+    pick (leb (bytesBefore (slotsOf l)) code)
     (pick (leb (length (relocations 0 l)) relocs) (A.Done (slotsOf l) (length (relocations 0 l) / 2)) (A.Refused (F.RelocRoom (length (relocations 0 l)))))
-    (A.Refused (F.CodeRoom (8 * slotsOf l)))
+    (A.Refused (F.CodeRoom (bytesBefore (slotsOf l))))
 
 unfoldable pub compileAnswer : List ℕ → ℕ → ℕ → Compiled
 compileAnswer b code relocs = roomed code relocs (loweringOf (parse b))

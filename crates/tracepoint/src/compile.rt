@@ -9,6 +9,8 @@ use jumps::Landed;
 use passes::Size;
 use unitfile::Found;
 use unitfile::ReadUnit;
+use wire::number::SlotNumber;
+use wire::number::byte_offset;
 ghost use mathlib.Core.Path.{_≡_};
 ghost use Prim.Native.Nat.{_+_, _≤_};
 ghost use lib.ListN.{length};
@@ -43,7 +45,7 @@ fn write_roomed(
     requires { ⌜ Ready (contextOf (now variables) (now hints) (now marks)) (marked (now emitted)) (blocksOf (parse (now unit))) (now edges) (now numbers) slots maps ⌝ }
     ensures { λ r. ⌜ Answers (loweredBy (contextOf (now (variables .entry)) (now (hints .entry)) (now (marks .entry))) (marked (now (emitted .entry))) (blocksOf (parse (now (unit .entry))))) (now (code .entry)) (now (relocs .entry)) r (now (code .exit)) (now (relocs .exit)) ⌝ }
 {
-    let bytes = 8 * slots;
+    let bytes = byte_offset(SlotNumber(slots)).0 as u32;
     if code.len() < bytes as usize {
         return Compiled::Refused(Fault::CodeRoom(bytes));
     }

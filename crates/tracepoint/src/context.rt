@@ -7,11 +7,11 @@ use unitfile::ReadUnit;
 ghost use mathlib.Core.Path.{_≡_};
 ghost use Prim.Native.Nat.{_+_, _*_, _≤_, _<_};
 ghost use lib.ListN.{length};
-ghost use Rattle.peek.specs.Terminator.{terminatorIn};
+ghost use Rattle.recordparts.specs.Terminator.{terminatorIn};
 ghost use Rattle.unitfile.specs.Unit.{parse, readUnit};
 ghost use Rattle.frame.specs.Hint.{indexBy};
 ghost use Rattle.survey.specs.Surveyed.{blocksOf};
-ghost use Rattle.survey.proofs.Sorted.{Fits};
+ghost use Rattle.survey.specs.Collected.{Fits};
 ghost use Rattle.passes.specs.Inner.{conditionAt, markAt, contextOf, conditionIn};
 ghost use Rattle.passes.specs.Notes.{marksAfter, countOf, firstTarget, secondTarget, Notes, EndsAt, Noted};
 
@@ -132,7 +132,7 @@ fn note(
     ensures { λ _. ⌜ Notes (now (variables .entry)) (now (hints .entry)) k (terminatorIn (now (unit .entry)) (place + 4)) (now (marks .entry)) (now (counts .entry)) (now (targets .entry)) (now (marks .exit)) (now (counts .exit)) (now (targets .exit)) ⌝ }
     ensures { λ _. ⌜ Notes (now (variables .entry)) (now (hints .entry)) k (terminatorIn (now (unit .entry)) (place + 4)) (now (marks .entry)) (now (counts .entry)) (now (numbers .entry)) (now (marks .exit)) (now (counts .exit)) (now (numbers .exit)) ⌝ }
 {
-    let t = peek::terminator::terminator_in(unit, place as usize + 4);
+    let t = recordparts::terminator::terminator_in(unit, place as usize + 4);
     mark_condition(variables, hints, marks, t);
     counts[k] = count_of(t);
     let a = first_target(t);

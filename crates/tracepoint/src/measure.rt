@@ -11,7 +11,7 @@ use unitfile::ReadUnit;
 ghost use mathlib.Core.Path.{_≡_};
 ghost use Prim.Native.Nat.{_+_, _≤_};
 ghost use lib.ListN.{length};
-ghost use Rattle.peek.specs.Terminator.{terminatorIn};
+ghost use Rattle.recordparts.specs.Terminator.{terminatorIn};
 ghost use Rattle.unitfile.specs.Unit.{parse, readUnit};
 ghost use Rattle.frame.specs.Hint.{frameBy};
 ghost use Rattle.survey.specs.Collected.{all, collected};
@@ -23,7 +23,7 @@ ghost use Rattle.jumps.specs.Landed.{marked};
 ghost use Rattle.passes.specs.Inner.{contextOf};
 ghost use Rattle.passes.specs.Notes.{EndsAt};
 ghost use Rattle.passes.specs.Tables.{sizeBy, loadSize, Sized, Measured};
-ghost use Rattle.passes.proofs.Sizing.{Row, RowSized, SomeBlock, BlockTakes};
+ghost use Rattle.passes.specs.Rows.{Row, RowSized, SomeBlock, BlockTakes};
 
 // ---- instructions
 
@@ -81,13 +81,10 @@ fn size_of_instructions(
 fn size_of_constant(place: usize, z: i64, slots: u32) -> Size
     ensures { λ r. ⌜ r ≡ loadSize place (Operand.Immediate z) slots ⌝ }
 {
-    if z < -2147483648 {
-        return Size::Refused(place, Reason::Immediate(z));
+    if wire::range::fits32(z) {
+        return Size::Slots(slots, 0);
     }
-    if z > 2147483647 {
-        return Size::Refused(place, Reason::Immediate(z));
-    }
-    Size::Slots(slots, 0)
+    Size::Refused(place, Reason::Immediate(z))
 }
 
 // The same of any operand: a variable has a cell.

@@ -7,16 +7,18 @@ use unitfile::Found;
 use unitfile::ReadUnit;
 use wire::number::ByteOffset;
 use wire::number::SlotNumber;
+use wire::number::byte_offset;
 ghost use mathlib.Core.Path.{_≡_};
 ghost use mathlib.Core.Bool.{true};
 ghost use mathlib.Core.List.{List, [], _∷_};
 ghost use Prim.Native.Nat.{ℕ, _+_, _*_, _≤_, _<_};
 ghost use lib.ListN.{length, getD};
 ghost use lib.Seq.{sets};
+ghost use Rattle.wire.specs.Range.{fits16};
+ghost use Rattle.wire.specs.Number.{bytesBefore};
 ghost use Rattle.unitfile.specs.Unit.{parse, readUnit};
 ghost use Rattle.survey.specs.Surveyed.{blocksOf};
 ghost use Rattle.lower.specs.Op.{slotsOf};
-ghost use Rattle.lower.specs.Operand.{fits16};
 ghost use Rattle.lower.specs.Held.{endingOps};
 ghost use Rattle.lower.specs.Payload.{scratchIn};
 ghost use Rattle.layout.specs.Layout.{at, ops, unitOps};
@@ -45,10 +47,10 @@ pub struct Passed {
 // ---- instructions
 
 fn put(code: &mut [u8], slot: SlotNumber, i: Insn)
-    requires { ⌜ 8 * slot .0 + 8 ≤ length (now code) ⌝ }
-    ensures { λ _. ⌜ now (code .exit) ≡ sets (now (code .entry)) (8 * slot .0) (codeBytes (i ∷ [])) ⌝ }
+    requires { ⌜ bytesBefore (slot .0) + 8 ≤ length (now code) ⌝ }
+    ensures { λ _. ⌜ now (code .exit) ≡ sets (now (code .entry)) (bytesBefore (slot .0)) (codeBytes (i ∷ [])) ⌝ }
 {
-    insn::put_insn(code, 8 * (slot.0 as usize), i);
+    insn::put_insn(code, byte_offset(slot).0 as usize, i);
 }
 
 // The front after so many slots; a map's load is the first of them and has a relocation.
@@ -66,7 +68,7 @@ fn put_relocation(relocs: &mut [u32], front: Front, map: MapUse, slots: u32) -> 
         },
         MapUse::Map(m) => {
             let after = t + 2;
-            let ByteOffset(bytes) = wire::number::byte_offset(slot);
+            let ByteOffset(bytes) = byte_offset(slot);
             relocs[t] = bytes as u32;
             relocs[t + 1] = m;
             Front {
@@ -107,7 +109,7 @@ fn put_instruction(
     let slot = front.slot;
     let e = lower::lower_instruction(
         code,
-        8 * (slot.0 as usize),
+        byte_offset(slot).0 as usize,
         variables,
         hints,
         j,
@@ -149,7 +151,7 @@ fn first_slot(edges: &[u32], number: u32) -> SlotNumber
 // What a terminator becomes; its targets begin at the slots a and b.
 fn put_ending(code: &mut [u8], front: Front, t: Ending, a: SlotNumber, b: SlotNumber) -> Front
     requires { ⌜ reaches (a .0) (b .0) (front .slot .0) (ops (at 0 (endingOps t))) ≡ true ⌝ }
-    requires { ⌜ (front .slot .0 + slotsOf (ops (at 0 (endingOps t))) ≤ 851969) × (8 * (front .slot .0 + slotsOf (ops (at 0 (endingOps t)))) ≤ length (now code)) ⌝ }
+    requires { ⌜ (front .slot .0 + slotsOf (ops (at 0 (endingOps t))) ≤ 851969) × (bytesBefore (front .slot .0 + slotsOf (ops (at 0 (endingOps t)))) ≤ length (now code)) ⌝ }
     ensures { λ r. ⌜ ((relocs : List ℕ) → Puts (insnsTo (a .0) (b .0)) (ops (at 0 (endingOps t))) (front .slot .0) (front .relocs) (now (code .entry)) relocs (r .slot .0) (r .relocs) (now (code .exit)) relocs) ⌝ }
 {
     let slot = front.slot;
@@ -276,7 +278,7 @@ fn put_block(
         );
         let a = first_slot(edges, numbers[2 * k]);
         let b = first_slot(edges, numbers[2 * k + 1]);
-        let t = peek::terminator::terminator_in(unit, end + 4);
+        let t = recordparts::terminator::terminator_in(unit, end + 4);
         let ending = lower::lower_terminator(variables, hints, t);
         let f = passed.front;
         return Passed {

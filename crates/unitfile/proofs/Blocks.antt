@@ -9,8 +9,7 @@ use lib.Seq.{append-snoc}
 use Rattle.ir.specs.declared.Terminator.{Terminator}
 use Rattle.record.specs.declared.Record.{Record}
 use Rattle.record.specs.declared.Record.the-variants as R
-use Rattle.unitfile.specs.declared.Cursor.{Cursor}
-use Rattle.unitfile.specs.Records.{Placed, records, recordsFrom}
+use Rattle.unitfile.specs.Records.{Cursor, Placed, records, recordsFrom}
 use Rattle.unitfile.specs.Unit.{PlacedInstruction, BasicBlock, Begun, none, begun, onValue, group}
 use Rattle.unitfile.proofs.Run.{Goes, Ended, goes, ended, came, came-end}
 

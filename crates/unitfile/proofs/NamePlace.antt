@@ -6,6 +6,7 @@ use Prim.Native.Nat.{ℕ, zero, suc, _+_, _<_, _≤_}
 use native.Mathlib.Nat.{add-zero, zero-add}
 use native.Mathlib.Omega.{arith}
 use borrow.Author.Tests.{lt-ltb, le-ltb, ltb-true, ltb-false}
+use denote.Ref.{RefT, now}
 use lib.Dec.{ltb}
 use lib.ListN.{length, getD, take, length-append, List·getD-eq-default}
 use Rattle.wire.specs.Pick.{pick}
@@ -14,8 +15,8 @@ use Rattle.record.specs.declared.Head.{Head}
 use Rattle.record.specs.declared.Fault.{Fault}
 use Rattle.opening.specs.Names.{part, named, namesAt, firstRecord}
 use Rattle.opening.specs.Places.{headOf, onMapAt, mapFrom}
-use Rattle.unitfile.specs.Unit.{Parsed, parsed, refused, parse, readUnit}
-use Rattle.unitfile.specs.MapName.{nameOf, namedOf, mapBytes, placeOf}
+use Rattle.unitfile.specs.Unit.{Parsed, parsed, refused, parse, mapBytes, readUnit}
+use Rattle.unitfile.specs.MapName.{nameOf, namedOf, placeOf, Lying, partAt, namePart}
 use Rattle.unitfile.specs.declared.Found.{Found}
 use Rattle.unitfile.specs.declared.MapPlace.{MapPlace}
 use Rattle.unitfile.specs.declared.MapPlace.the-variants as P
@@ -28,14 +29,9 @@ use Rattle.opening.specs.declared.HeadAt.the-variants as H
 use Rattle.opening.proofs.Choice.{pick-ind}
 use Rattle.opening.proofs.Heads.{after-head}
 use Rattle.opening.proofs.MapLaws.{is-map, read-one, part-length, names-front}
-use Rattle.unitfile.proofs.Whole.{Whole, whole, refused-whole, names-all, name-is, name-place, name-from}
+use Rattle.unitfile.proofs.Whole.{map-bytes-more, Whole, whole, refused-whole, names-all, name-is, name-place, name-from}
 
 -- ---- the maps before it
-
-map-bytes-more : (l : List (List ℕ)) (name : List ℕ) → mapBytes (l ++ (name ∷ [])) ≡ mapBytes l + (4 + length name)
-unfolding mapBytes
-map-bytes-more [] name = omega arith
-map-bytes-more (n ∷ l) name = let r = map-bytes-more l name in omega arith
 
 place-from : (b : List ℕ) (n k : ℕ) (names : List (List ℕ)) (at : ℕ) (all : List (List ℕ)) (end : ℕ) → namesAt b names at n ≡ named all end → k < n → (start len next : ℕ) → mapFrom b at k ≡ M.Is start len next → start + mapBytes names ≡ at + mapBytes (take (length names + k) all) + 4
 unfolding mapFrom onMapAt
@@ -88,11 +84,6 @@ place-refused b k f e = rw (refused-whole b f e)
 
 -- ---- what a place says of the name
 
--- the name lies there, inside the bytes
-pub record Lying (b name : List ℕ) (start len : ℕ) : Type 0 where
-  pub name-is : name ≡ part start len b
-  pub within : start + len ≤ length b
-
 lying-by : (b : List ℕ) (x : ReadUnit) → readUnit b ≡ x → (k start len : ℕ) → placeOf b (parse b) k ≡ P.At start len → Lying b (nameOf (parse b) k) start len
 lying-by b (U.Unit found) r k start len e = go (ltb k (found .maps)) refl
   where
@@ -131,7 +122,7 @@ named-at b (parsed u) k = go (ltb k (length (u .names)))
     go false = refl
 named-at b (refused f) k = refl
 
-pub nothing-named : (p : Parsed) (k : ℕ) → namedOf p k ≡ N.NoSuchMap → nameOf p k ≡ []
+nothing-named : (p : Parsed) (k : ℕ) → namedOf p k ≡ N.NoSuchMap → nameOf p k ≡ []
 unfolding namedOf nameOf
 nothing-named (parsed u) k =
     pick-ind (λ (x : Named). x ≡ N.NoSuchMap → getD (u .names) k [] ≡ []) (ltb k (length (u .names))) _ _
@@ -139,10 +130,21 @@ nothing-named (parsed u) k =
     (λ t e. List·getD-eq-default (u .names) [] {n = k} (ltb-false k (length (u .names)) t))
 nothing-named (refused f) k = λ e. refl
 
-pub refused-named : (p : Parsed) (k : ℕ) (f : Fault) → namedOf p k ≡ N.Refused f → nameOf p k ≡ []
+refused-named : (p : Parsed) (k : ℕ) (f : Fault) → namedOf p k ≡ N.Refused f → nameOf p k ≡ []
 unfolding namedOf nameOf
 refused-named (parsed u) k f =
     pick-ind (λ (x : Named). x ≡ N.Refused f → getD (u .names) k [] ≡ []) (ltb k (length (u .names))) _ _
     (λ t e. let z : _≡_ {A = ℕ} 0 1 = cc in absurd (omega arith))
     (λ t e. let z : _≡_ {A = ℕ} 0 1 = cc in absurd (omega arith))
 refused-named (refused g) k f = λ e. refl
+
+-- the part of a lent unit that is a map's name has the name's bytes
+named-part : (s : RefT (List ℕ)) (k : ℕ) (p : MapPlace) → placeOf (now s) (parse (now s)) k ≡ p → partAt s p .bytes ≡ nameOf (parse (now s)) k
+unfolding partAt
+named-part s k (P.At start len) e = sym (lying (now s) k start len e .name-is)
+named-part s k P.NoSuchMap e = sym (nothing-named (parse (now s)) k (named-at (now s) _ k ∙ ap namedAt e))
+named-part s k (P.Refused f) e = sym (refused-named (parse (now s)) k f (named-at (now s) _ k ∙ ap namedAt e))
+
+pub name-part : (s : RefT (List ℕ)) (k : ℕ) → namePart s k .bytes ≡ nameOf (parse (now s)) k
+unfolding namePart
+name-part s k = named-part s k _ refl

@@ -21,13 +21,10 @@ use Rattle.record.proofs.RecordLaws.{Came, record-taken}
 use Rattle.recordcheck.specs.Checked.{checkedOf}
 use Rattle.recordcheck.specs.declared.Checked.{Checked}
 use Rattle.recordcheck.specs.declared.Checked.the-variants as Ch
-use Rattle.unitfile.specs.Inner.{inBlock, atBlock, onEnd}
-use Rattle.unitfile.specs.Records.{after, onRecord, nextRecord, recordsFrom}
-use Rattle.unitfile.specs.Unit.{foundWith}
-use Rattle.unitfile.specs.declared.Cursor.{Cursor}
+use Rattle.unitfile.specs.Inner.{foundWith, onEnd}
+use Rattle.unitfile.specs.Records.{Cursor, inBlock, atBlock, go, stop, after, onRecord, nextRecord, recordsFrom}
 use Rattle.unitfile.specs.declared.Found.{Found}
 use Rattle.unitfile.specs.declared.ReadUnit.the-variants as U
-use Rattle.unitfile.specs.declared.Step.the-variants.{Go, Refused}
 use Rattle.unitfile.proofs.Run.{on-go, on-end, on-refused}
 use Rattle.unitfile.proofs.Whole.{found-cons}
 
@@ -53,10 +50,10 @@ module _ (b : List ℕ) (at : ℕ) (due : Due) (maps : ℕ) where
 -- ---- what is found from it on
 
 module _ (found : Found) (b : List ℕ) (maps : ℕ) where
-  by-step : (c d : Cursor) (r : Record) → nextRecord b maps c ≡ Go r d → foundWith found (recordsFrom b maps c) ≡ foundWith found (recordsFrom b maps d)
+  by-step : (c d : Cursor) (r : Record) → nextRecord b maps c ≡ go r d → foundWith found (recordsFrom b maps c) ≡ foundWith found (recordsFrom b maps d)
   by-step c d r e = ap (foundWith found) (on-go b maps c r d e) ∙ found-cons found _ _
 
-  by-refusal : (c : Cursor) (f : Fault) → nextRecord b maps c ≡ Refused f → foundWith found (recordsFrom b maps c) ≡ U.Refused f
+  by-refusal : (c : Cursor) (f : Fault) → nextRecord b maps c ≡ stop f → foundWith found (recordsFrom b maps c) ≡ U.Refused f
   unfolding foundWith
   by-refusal c f e = rw (on-refused b maps c f e) refl
 
@@ -77,7 +74,7 @@ module _ (found : Found) (b : List ℕ) (maps : ℕ) where
         let k : kindOf r ≡ kind = cc in
         let z : n ≡ next = cc in
         let d = inside-after _ r n (record-taken b at Du.Inside maps r n h .came) in
-        rw (← z, ← q, ← k) (by-step (inBlock at blocks) _ r (rw h (ap (Go r) d)))
+        rw (← z, ← q, ← k) (by-step (inBlock at blocks) _ r (rw h (ap (go r) d)))
     inside-by (Re.Refused f) h kind next e t q = let z : _≡_ {A = ℕ} 0 1 = cc in absurd (omega arith)
 
     pub instruction-passed : (next : ℕ) → (kind : ℕ) → kind ≡ 4 → checkedOf (readRecord b at Du.Inside maps) ≡ Ch.Next kind next → foundWith found (recordsFrom b maps (inBlock at blocks)) ≡ foundWith found (recordsFrom b maps (inBlock next blocks))
@@ -86,10 +83,10 @@ module _ (found : Found) (b : List ℕ) (maps : ℕ) where
     pub block-ended : (next : ℕ) → (kind : ℕ) → (kind ≡ 4 → ⊥) → checkedOf (readRecord b at Du.Inside maps) ≡ Ch.Next kind next → foundWith found (recordsFrom b maps (inBlock at blocks)) ≡ foundWith found (recordsFrom b maps (atBlock next blocks))
     block-ended next kind k e = inside-by _ refl kind next e false (ne-eqb kind 4 k)
 
-    inside-refused-by : (x : Read) → readRecord b at Du.Inside maps ≡ x → (f : Fault) → checkedOf x ≡ Ch.Refused f → nextRecord b maps (inBlock at blocks) ≡ Refused f
+    inside-refused-by : (x : Read) → readRecord b at Du.Inside maps ≡ x → (f : Fault) → checkedOf x ≡ Ch.Refused f → nextRecord b maps (inBlock at blocks) ≡ stop f
     unfolding checkedOf nextRecord onRecord
     inside-refused-by (Re.Record r n) h f e = let z : _≡_ {A = ℕ} 0 1 = cc in absurd (omega arith)
-    inside-refused-by (Re.Refused g) h f e = let z : g ≡ f = cc in rw h (ap Refused z)
+    inside-refused-by (Re.Refused g) h f e = let z : g ≡ f = cc in rw h (ap stop z)
 
     pub inside-refused : (f : Fault) → checkedOf (readRecord b at Du.Inside maps) ≡ Ch.Refused f → foundWith found (recordsFrom b maps (inBlock at blocks)) ≡ U.Refused f
     inside-refused f e = by-refusal _ f (inside-refused-by _ refl f e)
@@ -112,16 +109,16 @@ module _ (found : Found) (b : List ℕ) (maps : ℕ) where
     block-by (Re.Record r n) h kind next e =
         let z : n ≡ next = cc in
         let d = block-after _ r n (record-taken b at Du.Block maps r n h .came) in
-        rw (← z) (by-step (atBlock at (suc blocks)) _ r (rw (one-due, h) (ap (Go r) d)))
+        rw (← z) (by-step (atBlock at (suc blocks)) _ r (rw (one-due, h) (ap (go r) d)))
     block-by (Re.Refused f) h kind next e = let z : _≡_ {A = ℕ} 0 1 = cc in absurd (omega arith)
 
     pub block-opened : (kind next : ℕ) → checkedOf (readRecord b at Du.Block maps) ≡ Ch.Next kind next → foundWith found (recordsFrom b maps (atBlock at (suc blocks))) ≡ foundWith found (recordsFrom b maps (inBlock next blocks))
     block-opened = block-by _ refl
 
-    block-refused-by : (x : Read) → readRecord b at Du.Block maps ≡ x → (f : Fault) → checkedOf x ≡ Ch.Refused f → nextRecord b maps (atBlock at (suc blocks)) ≡ Refused f
+    block-refused-by : (x : Read) → readRecord b at Du.Block maps ≡ x → (f : Fault) → checkedOf x ≡ Ch.Refused f → nextRecord b maps (atBlock at (suc blocks)) ≡ stop f
     unfolding checkedOf nextRecord onRecord
     block-refused-by (Re.Record r n) h f e = let z : _≡_ {A = ℕ} 0 1 = cc in absurd (omega arith)
-    block-refused-by (Re.Refused g) h f e = let z : g ≡ f = cc in rw (one-due, h) (ap Refused z)
+    block-refused-by (Re.Refused g) h f e = let z : g ≡ f = cc in rw (one-due, h) (ap stop z)
 
     pub block-refused : (f : Fault) → checkedOf (readRecord b at Du.Block maps) ≡ Ch.Refused f → foundWith found (recordsFrom b maps (atBlock at (suc blocks))) ≡ U.Refused f
     block-refused f e = by-refusal _ f (block-refused-by _ refl f e)

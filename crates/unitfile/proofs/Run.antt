@@ -18,10 +18,7 @@ use Rattle.record.specs.declared.Due.the-variants as Du
 use Rattle.record.specs.declared.Fault.{Fault}
 use Rattle.record.specs.declared.Read.{Read}
 use Rattle.record.specs.declared.Read.the-variants as Re
-use Rattle.unitfile.specs.Records.{after, onRecord, nextRecord, Placed, Records, records, refused, cons, onStep, upTo, recordsFrom}
-use Rattle.unitfile.specs.declared.Cursor.{Cursor}
-use Rattle.unitfile.specs.declared.Step.{Step}
-use Rattle.unitfile.specs.declared.Step.the-variants.{Go, End, Refused}
+use Rattle.unitfile.specs.Records.{Cursor, Step, go, end, stop, after, onRecord, nextRecord, Placed, Records, records, refused, cons, onStep, upTo, recordsFrom}
 use Rattle.record.proofs.RecordLaws.{Came, Taken, record-taken}
 use Rattle.opening.proofs.Choice.{pick-ind}
 
@@ -75,7 +72,7 @@ module _ (b : List ℕ) (maps : ℕ) (c : Cursor) where
     read : readRecord b (c .at) due maps ≡ Re.Record r next
     to : d ≡ after c (kindOf r) next
 
-  read-on : (due : Due) (x : Read) → readRecord b (c .at) due maps ≡ x → (r : Record) (d : Cursor) → onRecord c x ≡ Go r d → Read-on due r d
+  read-on : (due : Due) (x : Read) → readRecord b (c .at) due maps ≡ x → (r : Record) (d : Cursor) → onRecord c x ≡ go r d → Read-on due r d
   unfolding onRecord
   read-on due (Re.Record q next) h r d e =
       let z : q ≡ r = cc in
@@ -117,7 +114,7 @@ module _ (b : List ℕ) (maps : ℕ) (c : Cursor) where
       record { taken = subst (Taken b (c .at) due maps r) (sym a) t; goes = subst (λ (x : Cursor). Goes c x r) (sym (o .to)) (h _ (o .next) (t .came)) }
 
   abbrev Onward : Step → Type 0
-  Onward x = (r : Record) (d : Cursor) → x ≡ Go r d → Went (due-at c) r d
+  Onward x = (r : Record) (d : Cursor) → x ≡ go r d → Went (due-at c) r d
 
   by-due : {t : Bool} {r : Record} {d : Cursor} → c .inside ≡ t → Went (pick t Du.Inside Du.Block) r d → Went (due-at c) r d
   by-due {t} {r} {d} i w = subst (λ (x : Bool). Went (pick x Du.Inside Du.Block) r d) (sym i) w
@@ -135,24 +132,24 @@ module _ (b : List ℕ) (maps : ℕ) (c : Cursor) where
       by-due i (went-by Du.Block r d (outside-goes i (let n = eqb-false (c .blocks) 0 z in omega arith) r) (read-on Du.Block _ refl r d e))))
 
   -- all that is known of a record that was read at a cursor
-  pub taken : (r : Record) (d : Cursor) → nextRecord b maps c ≡ Go r d → Taken b (c .at) (due-at c) maps r (d .at)
+  pub taken : (r : Record) (d : Cursor) → nextRecord b maps c ≡ go r d → Taken b (c .at) (due-at c) maps r (d .at)
   taken r d e = onward r d e .taken
 
-  pub later : (r : Record) (d : Cursor) → nextRecord b maps c ≡ Go r d → Later b c d
+  pub later : (r : Record) (d : Cursor) → nextRecord b maps c ≡ go r d → Later b c d
   later r d e = let t = taken r d e in record { later = t .later; within = t .within; next = t .ends }
 
-  pub goes : (r : Record) (d : Cursor) → nextRecord b maps c ≡ Go r d → Goes c d r
+  pub goes : (r : Record) (d : Cursor) → nextRecord b maps c ≡ go r d → Goes c d r
   goes r d e = onward r d e .goes
 
   abbrev Ends : Step → Type 0
-  Ends x = x ≡ End → Ended b c
+  Ends x = x ≡ end → Ended b c
 
   no-end : (x : Read) → Ends (onRecord c x)
   unfolding onRecord
   no-end (Re.Record r next) e = let z : _≡_ {A = ℕ} 0 1 = cc in absurd (omega arith)
   no-end (Re.Refused f) e = let z : _≡_ {A = ℕ} 0 1 = cc in absurd (omega arith)
 
-  pub ended : nextRecord b maps c ≡ End → Ended b c
+  pub ended : nextRecord b maps c ≡ end → Ended b c
   unfolding nextRecord
   ended =
       pick-ind Ends (c .inside) _ _
@@ -171,11 +168,11 @@ Same b maps f g = (c : Cursor) → length b - c .at < f → length b - c .at < g
 
 same-step : (b : List ℕ) (maps f g : ℕ) → Same b maps f g → (c : Cursor) (x : Step) → nextRecord b maps c ≡ x → length b - c .at < suc f → length b - c .at < suc g → onStep (c .at) x (λ d. upTo f b maps d) ≡ onStep (c .at) x (λ d. upTo g b maps d)
 unfolding onStep
-same-step b maps f g ih c (Go r d) e p q =
+same-step b maps f g ih c (go r d) e p q =
     let o = later b maps c r d e in
     ap (cons _) (ih d (omega arith) (omega arith))
-same-step b maps f g ih c End e p q = refl
-same-step b maps f g ih c (Refused x) e p q = refl
+same-step b maps f g ih c end e p q = refl
+same-step b maps f g ih c (stop x) e p q = refl
 
 enough : (b : List ℕ) (maps f g : ℕ) → Same b maps f g
 unfolding upTo
@@ -184,24 +181,24 @@ enough b maps (suc f) zero c p q = absurd (omega arith)
 enough b maps (suc f) (suc g) c p q = same-step b maps f g (enough b maps f g) c (nextRecord b maps c) refl p q
 
 module _ (b : List ℕ) (maps : ℕ) (c : Cursor) where
-  pub on-go : (r : Record) (d : Cursor) → nextRecord b maps c ≡ Go r d → recordsFrom b maps c ≡ cons (record { place = c .at; value = r }) (recordsFrom b maps d)
+  pub on-go : (r : Record) (d : Cursor) → nextRecord b maps c ≡ go r d → recordsFrom b maps c ≡ cons (record { place = c .at; value = r }) (recordsFrom b maps d)
   unfolding recordsFrom upTo onStep
   on-go r d e =
       let o = later b maps c r d e in
       rw e (ap (cons _) (enough b maps (length b) (suc (length b)) d (omega arith) (omega arith)))
 
-  pub on-end : nextRecord b maps c ≡ End → recordsFrom b maps c ≡ records []
+  pub on-end : nextRecord b maps c ≡ end → recordsFrom b maps c ≡ records []
   unfolding recordsFrom upTo onStep
   on-end e = rw e refl
 
-  pub on-refused : (f : Fault) → nextRecord b maps c ≡ Refused f → recordsFrom b maps c ≡ refused f
+  pub on-refused : (f : Fault) → nextRecord b maps c ≡ stop f → recordsFrom b maps c ≡ refused f
   unfolding recordsFrom upTo onStep
   on-refused f e = rw e refl
 
 -- the other way round: what the records from a cursor on say of the step there
 pub record CameTo (b : List ℕ) (maps : ℕ) (c : Cursor) (p : Placed) (l : List Placed) : Type 0 where
   pub next : Cursor
-  pub step : nextRecord b maps c ≡ Go (p .value) next
+  pub step : nextRecord b maps c ≡ go (p .value) next
   pub place : p .place ≡ c .at
   pub rest : recordsFrom b maps next ≡ records l
 
@@ -220,26 +217,26 @@ module _ (b : List ℕ) (maps : ℕ) (c : Cursor) where
   cons-some q (refused f) e = let z : _≡_ {A = ℕ} 0 1 = cc in omega arith
 
   came-by : (x : Step) → nextRecord b maps c ≡ x → (p : Placed) (l : List Placed) → recordsFrom b maps c ≡ records (p ∷ l) → CameTo b maps c p l
-  came-by (Go r d) h p l e =
+  came-by (go r d) h p l e =
       let z = cons-is _ _ p l (sym (on-go b maps c r d h) ∙ e) in
       let v = ap (λ (x : Placed). x .value) (z .0) in
-      record { next = d; step = h ∙ ap (λ (x : Record). Go x d) v; place = sym (ap (λ (x : Placed). x .place) (z .0)); rest = z .1 }
-  came-by End h p l e =
+      record { next = d; step = h ∙ ap (λ (x : Record). go x d) v; place = sym (ap (λ (x : Placed). x .place) (z .0)); rest = z .1 }
+  came-by end h p l e =
       let n = sym (on-end b maps c h) ∙ e in
       let z : _≡_ {A = ℕ} 0 1 = cc in absurd (omega arith)
-  came-by (Refused f) h p l e =
+  came-by (stop f) h p l e =
       let n = sym (on-refused b maps c f h) ∙ e in
       let z : _≡_ {A = ℕ} 0 1 = cc in absurd (omega arith)
 
   pub came : (p : Placed) (l : List Placed) → recordsFrom b maps c ≡ records (p ∷ l) → CameTo b maps c p l
   came = came-by (nextRecord b maps c) refl
 
-  came-end-by : (x : Step) → nextRecord b maps c ≡ x → recordsFrom b maps c ≡ records [] → nextRecord b maps c ≡ End
-  came-end-by (Go r d) h e = absurd (cons-some _ _ (sym (on-go b maps c r d h) ∙ e))
-  came-end-by End h e = h
-  came-end-by (Refused f) h e =
+  came-end-by : (x : Step) → nextRecord b maps c ≡ x → recordsFrom b maps c ≡ records [] → nextRecord b maps c ≡ end
+  came-end-by (go r d) h e = absurd (cons-some _ _ (sym (on-go b maps c r d h) ∙ e))
+  came-end-by end h e = h
+  came-end-by (stop f) h e =
       let n = sym (on-refused b maps c f h) ∙ e in
       let z : _≡_ {A = ℕ} 0 1 = cc in absurd (omega arith)
 
-  pub came-end : recordsFrom b maps c ≡ records [] → nextRecord b maps c ≡ End
+  pub came-end : recordsFrom b maps c ≡ records [] → nextRecord b maps c ≡ end
   came-end = came-end-by (nextRecord b maps c) refl

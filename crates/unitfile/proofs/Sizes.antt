@@ -17,9 +17,9 @@ use Rattle.ir.proofs.OperandLaws.{pushed-last}
 use Rattle.record.specs.Frame.{lengthAt, kindAt, nextAt}
 use Rattle.operand.specs.Operand.{operandAt, onOperand, operandsAt}
 use Rattle.wire.specs.Pick.{both}
-use Rattle.record.specs.Instruction.{countAt, joined, sized, instructionAt}
+use Rattle.record.specs.Instruction.{countIn, joined, sized, instructionAt}
 use Rattle.record.specs.Terminator.{returning, branching, terminatorAt, terminatorSize}
-use Rattle.record.specs.Payload.{headAt, headOk, ofInstruction, ofTerminator, payloadAt}
+use Rattle.record.specs.Payload.{headIn, headOk, ofInstruction, ofTerminator, payloadAt}
 use Rattle.record.specs.declared.Record.{Record}
 use Rattle.record.specs.declared.Record.the-variants as R
 use Rattle.operand.specs.declared.ReadOperand.{ReadOperand}
@@ -36,9 +36,7 @@ use Rattle.record.specs.declared.payload.Payload.{Payload}
 use Rattle.record.specs.declared.payload.Payload.the-variants as P
 use Rattle.opcode.proofs.Opcodes.{both-true}
 use Rattle.record.proofs.Instructions.{right-size}
-use Rattle.unitfile.specs.declared.Cursor.{Cursor}
-use Rattle.unitfile.specs.declared.Step.the-variants.{Go}
-use Rattle.unitfile.specs.Records.{Placed, records, nextRecord, recordsFrom}
+use Rattle.unitfile.specs.Records.{Cursor, go, Placed, records, nextRecord, recordsFrom}
 use Rattle.opening.proofs.Choice.{pick-ind}
 use Rattle.unitfile.proofs.Run.{taken, ended, came, came-end}
 
@@ -94,7 +92,7 @@ joined-operands result C.Broken (L.Is l) i e = let z : _≡_ {A = ℕ} 0 1 = cc 
 joined-operands result C.Broken L.Broken i e = let z : _≡_ {A = ℕ} 0 1 = cc in absurd (omega arith)
 
 instruction-size : (b : List ℕ) (at len maps : ℕ) (i : Instruction) → instructionAt b at len maps ≡ I.Is i → len ≡ 16 + 9 * length (listOf (i .operands))
-unfolding instructionAt sized countAt listOf
+unfolding instructionAt sized countIn listOf
 instruction-size b at len maps i =
     pick-ind (λ (x : ReadInstruction). x ≡ I.Is i → len ≡ 16 + 9 * length (listOf (i .operands))) (sized b at len) _ _
     (λ s e.
@@ -159,7 +157,7 @@ payload-size : (kind : ℕ) (b : List ℕ) (at len maps : ℕ) → Holds len (pa
 unfolding payloadAt payloadSize
 payload-size kind b at len maps =
     pick-ind (Holds len) (eqb kind 1) _ _
-    (λ k. pick-ind (Holds len) (both (eqb len 8) (headOk (headAt b at))) _ _ (λ h. is-holds len _ (eqb-true _ _ (both-true (eqb len 8) _ h .0))) (λ h. broken-holds len))
+    (λ k. pick-ind (Holds len) (both (eqb len 8) (headOk (headIn b at))) _ _ (λ h. is-holds len _ (eqb-true _ _ (both-true (eqb len 8) _ h .0))) (λ h. broken-holds len))
     (λ k. pick-ind (Holds len) (eqb kind 2) _ _
     (λ k. pick-ind (Holds len) (leb len 64) _ _ (λ h. is-holds len _ refl) (λ h. broken-holds len))
     (λ k. pick-ind (Holds len) (eqb kind 3) _ _
@@ -171,7 +169,7 @@ payload-size kind b at len maps =
 -- ---- records
 
 -- a step goes on by the bytes of its record
-pub step-size : (b : List ℕ) (maps : ℕ) (c : Cursor) (r : Record) (d : Cursor) → nextRecord b maps c ≡ Go r d → d .at ≡ c .at + 4 + payloadSize r
+pub step-size : (b : List ℕ) (maps : ℕ) (c : Cursor) (r : Record) (d : Cursor) → nextRecord b maps c ≡ go r d → d .at ≡ c .at + 4 + payloadSize r
 unfolding nextAt
 step-size b maps c r d e =
     let t = taken b maps c r d e in

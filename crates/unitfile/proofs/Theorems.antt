@@ -1,27 +1,22 @@
--- Reading is decided on every byte string; a map's name lies inside the unit; no name comes twice.
+-- Reading is decided on every byte string; the head's counts are the unit's; a map's name lies inside the unit; no name comes twice.
 use mathlib.Core.Path.{_≡_, refl, ap, _∙_, sym, subst}
 use mathlib.Core.List.{List, []}
-use Prim.Native.Nat.{ℕ, _+_, _-_, _<_, _≤_}
+use Prim.Native.Nat.{ℕ, _-_, _<_}
 use native.Mathlib.Omega.{arith}
-use lib.ListN.{length, take, drop}
-use Rattle.record.specs.Record.{readRecord}
-use Rattle.record.specs.declared.Record.the-variants as R
-use Rattle.record.specs.declared.Due.the-variants as Du
+use lib.ListN.{length}
 use Rattle.record.specs.declared.Fault.{Fault}
-use Rattle.record.specs.declared.Read.the-variants as Re
-use Rattle.unitfile.specs.Unit.{UnitIr, parsed, refused, none, group, parse, readUnit}
-use Rattle.unitfile.specs.MapName.{nameOf}
+use Rattle.record.specs.declared.Head.{Head}
+use Rattle.unitfile.specs.Unit.{UnitIr, parsed, refused, none, group, parse, readUnit, Decided, refusal, whole-unit}
+use Rattle.unitfile.specs.MapName.{NameInside}
 use Rattle.unitfile.specs.declared.Found.{Found}
 use Rattle.unitfile.specs.declared.ReadUnit.{ReadUnit}
 use Rattle.unitfile.specs.declared.ReadUnit.the-variants as U
-use Rattle.opening.proofs.MapLaws.{is-map, Distinct, names-distinct}
+use Rattle.opening.specs.Names.{Distinct, firstRecord}
+use Rattle.opening.specs.Places.{headOf}
+use Rattle.opening.specs.declared.HeadAt.the-variants as H
+use Rattle.opening.proofs.MapLaws.{is-map, names-distinct}
 use Rattle.unitfile.proofs.Whole.{Whole, whole, refused-whole, name-place}
 use Rattle.unitfile.proofs.Units.{unit, unit-of}
-
--- every byte string is refused by the reader and by the definition alike, or it is a unit, and the head's counts are those of its names and blocks
-pub data Decided (b : List ℕ) : Type 0 where
-  refusal : (f : Fault) → readUnit b ≡ U.Refused f → parse b ≡ refused f → Decided b
-  whole-unit : (found : Found) (u : UnitIr) → readUnit b ≡ U.Unit found → parse b ≡ parsed u → length (u .names) ≡ found .maps → length (u .blocks) ≡ found .blocks → Decided b
 
 decided-by : (b : List ℕ) (x : ReadUnit) → readUnit b ≡ x → Decided b
 decided-by b (U.Unit found) e = let u = unit-of b found e in whole-unit found (unit b found e) e (u .parsed-as) (u .names) (u .blocks)
@@ -42,13 +37,23 @@ refused-alike b f = (refused-whole b f, go (decided b))
         let q = sym p ∙ e in
         let z : _≡_ {A = ℕ} 0 1 = cc in absurd (omega arith)
 
--- a map's name is part of the unit, the payload of its record
-pub record NameInside (b : List ℕ) (k : ℕ) : Type 0 where
-  pub start : ℕ
-  pub len : ℕ
-  pub within : start + len ≤ length b
-  pub name : nameOf (parse b) k ≡ take len (drop start b)
-  pub read : readRecord b (start - 4) Du.Map 0 ≡ Re.Record (R.Map start len) (start + len)
+-- a unit has as many maps and blocks as its head says
+pub head-counts : (b : List ℕ) (u : UnitIr) (h : Head) (first : ℕ) → parse b ≡ parsed u → headOf (firstRecord b) ≡ H.Is h first → (length (u .names) ≡ h .maps) × (length (u .blocks) ≡ h .blocks)
+head-counts b u h first = go (decided b)
+  where
+    go : Decided b → parse b ≡ parsed u → headOf (firstRecord b) ≡ H.Is h first → (length (u .names) ≡ h .maps) × (length (u .blocks) ≡ h .blocks)
+    go (refusal f r p) e i =
+        let q = sym p ∙ e in
+        let z : _≡_ {A = ℕ} 0 1 = cc in absurd (omega arith)
+    go (whole-unit found v r p n m) e i =
+        let w = whole b found r in
+        let q = sym p ∙ e in
+        let z : v ≡ u = cc in
+        let j = sym (w .head) ∙ i in
+        let y : w .opening ≡ h = cc in
+        (ap (λ (x : UnitIr). length (x .names)) (sym z) ∙ n ∙ sym (w .maps-are) ∙ ap (λ (x : Head). x .maps) y, ap (λ (x : UnitIr). length (x .blocks)) (sym z) ∙ m ∙ sym (w .blocks-are) ∙ ap (λ (x : Head). x .blocks) y)
+
+-- ---- a map's name
 
 name-by : (b : List ℕ) (found : Found) → Whole b found → (k : ℕ) → k < found .maps → NameInside b k
 name-by b found w k h =

@@ -7,8 +7,8 @@ use lib.ListN.{length}
 use Rattle.record.specs.declared.Record.the-variants as R
 use Rattle.record.specs.declared.Due.the-variants as Du
 use Rattle.record.proofs.RecordLaws.{head-bounds, record-taken}
-use Rattle.unitfile.specs.Records.{records, recordsFrom}
-use Rattle.unitfile.specs.Unit.{UnitIr, parsed, none, group, firstBlock, parse, readUnit}
+use Rattle.unitfile.specs.Records.{records, atBlock, recordsFrom}
+use Rattle.unitfile.specs.Unit.{UnitIr, parsed, none, group, parse, readUnit}
 use Rattle.unitfile.specs.declared.Found.{Found}
 use Rattle.unitfile.specs.declared.ReadUnit.the-variants as U
 use Rattle.opening.proofs.Heads.{first-is}
@@ -19,7 +19,7 @@ use Rattle.unitfile.proofs.Whole.{Whole, whole, names-all}
 -- the unit is what the bytes are; its records from the first block on are its blocks written out; its counts are those that were found
 pub record UnitOf (b : List ℕ) (found : Found) (u : UnitIr) : Type 0 where
   pub parsed-as : parse b ≡ parsed u
-  pub body : recordsFrom b (found .maps) (firstBlock (found .blocks) (found .body)) ≡ records (flat (u .blocks))
+  pub body : recordsFrom b (found .maps) (atBlock (found .body) (found .blocks)) ≡ records (flat (u .blocks))
   pub names : length (u .names) ≡ found .maps
   pub blocks : length (u .blocks) ≡ found .blocks
   pub few-blocks : found .blocks ≤ 1024
@@ -31,13 +31,13 @@ module _ (b : List ℕ) (found : Found) where
   unit-found w = record { names = w .names; blocks = group none (w .list) }
 
   found-unit : (w : Whole b found) → UnitOf b found (unit-found w)
-  unfolding unit-found firstBlock
+  unfolding unit-found
   found-unit w =
       let f = first-is b (w .opening) (w .first) (w .head) in
       let t = record-taken b 0 Du.Head 0 (R.Head (w .opening)) (w .first) (f .read) in
       let bounds = head-bounds (w .opening) (t .came) in
       let maps = found .maps in
-      let start = firstBlock (found .blocks) (found .body) in
+      let start = atBlock (found .body) (found .blocks) in
       record {
         parsed-as = w .unit;
         body = w .body ∙ ap records (sym (flat-group b maps (w .list) start refl (w .body)));

@@ -1,34 +1,39 @@
 -- What the crate's private functions answer, between the records and the unit. No public promise names these.
 use Prim.Native.Nat.{ℕ}
-use mathlib.Core.Bool.{true, false}
 use mathlib.Core.List.{List}
 use Rattle.recordcheck.specs.declared.Checked.{Checked}
 use Rattle.recordcheck.specs.declared.Checked.the-variants as Ch
-use Rattle.record.specs.declared.Fault.{Fault}
-use Rattle.record.specs.declared.Fault.the-variants.{TooLong}
-use Rattle.record.specs.declared.Read.{Read}
-use Rattle.record.specs.declared.Read.the-variants as Re
-use Rattle.unitfile.specs.declared.Cursor.{Cursor}
+use Rattle.record.specs.declared.Fault.the-variants.{NotDue}
+use Rattle.opening.specs.Names.{Opened, opened, shut}
+use Rattle.opening.specs.declared.BodyAt.{BodyAt}
+use Rattle.opening.specs.declared.BodyAt.the-variants as B
 use Rattle.unitfile.specs.declared.Found.{Found}
 use Rattle.unitfile.specs.declared.ReadUnit.{ReadUnit}
 use Rattle.unitfile.specs.declared.ReadUnit.the-variants as U
-use Rattle.unitfile.specs.Records.{recordsFrom}
-use Rattle.unitfile.specs.Unit.{foundWith}
+use Rattle.unitfile.specs.Records.{Records, atBlock, recordsFrom}
+use Rattle.unitfile.specs.Records as rs
 
--- why no record was read, where none was
-unfoldable pub faultOf : Read → Fault
-faultOf (Re.Record r next) = TooLong
-faultOf (Re.Refused f) = f
-
--- inside a block, with so many blocks due after it
-abbrev pub inBlock : ℕ → ℕ → Cursor
-inBlock at blocks = record { at = at; blocks = blocks; inside = true }
-
--- between blocks, with so many due
-abbrev pub atBlock : ℕ → ℕ → Cursor
-atBlock at blocks = record { at = at; blocks = blocks; inside = false }
+-- what is found where the records of the blocks are read
+unfoldable pub foundWith : Found → Records → ReadUnit
+foundWith found (rs.records l) = U.Unit found
+foundWith found (rs.refused f) = U.Refused f
 
 -- what is found from the end of a block on, with so many blocks due after it
 unfoldable pub onEnd : Found → List ℕ → ℕ → ℕ → Checked → ReadUnit
 onEnd found b maps blocks (Ch.Next kind next) = foundWith found (recordsFrom b maps (atBlock next blocks))
 onEnd found b maps blocks (Ch.Refused f) = U.Refused f
+
+-- what is found from the blocks on
+unfoldable pub foundIn : List ℕ → Opened → ReadUnit
+foundIn b (opened h names at) = foundWith (record { maps = h .maps; blocks = h .blocks; body = at }) (recordsFrom b (h .maps) (atBlock at (h .blocks)))
+foundIn b (shut f) = U.Refused f
+
+-- ---- a refusal handed on; where nothing was refused, any answer
+
+unfoldable pub refusedBlocks : Checked → ReadUnit
+refusedBlocks (Ch.Next kind next) = U.Refused (NotDue next)
+refusedBlocks (Ch.Refused f) = U.Refused f
+
+unfoldable pub refusedUnit : BodyAt → ReadUnit
+refusedUnit (B.Is h at) = U.Refused (NotDue at)
+refusedUnit (B.Refused f) = U.Refused f

@@ -1,18 +1,19 @@
 -- A unit: its maps' names and its blocks.
-use Prim.Native.Nat.{ℕ}
-use mathlib.Core.Bool.{false}
+use mathlib.Core.Path.{_≡_}
+use Prim.Native.Nat.{ℕ, _+_}
 use mathlib.Core.List.{List, [], _∷_, _++_}
+use lib.ListN.{length}
 use Rattle.ir.specs.declared.Instruction.{Instruction}
 use Rattle.ir.specs.declared.Terminator.{Terminator}
+use Rattle.record.specs.Frame.{nextAt}
 use Rattle.record.specs.declared.Record.{Record}
 use Rattle.record.specs.declared.Record.the-variants as R
 use Rattle.record.specs.declared.Fault.{Fault}
-use Rattle.unitfile.specs.declared.Cursor.{Cursor}
 use Rattle.unitfile.specs.declared.Found.{Found}
 use Rattle.unitfile.specs.declared.ReadUnit.{ReadUnit}
 use Rattle.unitfile.specs.declared.ReadUnit.the-variants as U
 use Rattle.opening.specs.Names.{Opened, opened, shut, openUnit}
-use Rattle.unitfile.specs.Records.{Placed, Records, recordsFrom}
+use Rattle.unitfile.specs.Records.{Placed, Records, atBlock, recordsFrom}
 use Rattle.unitfile.specs.Records as rs
 
 pub record PlacedInstruction : Type 0 where
@@ -61,25 +62,27 @@ unfoldable pub withRecords : List (List ℕ) → Records → Parsed
 withRecords names (rs.records l) = parsed (record { names = names; blocks = group none l })
 withRecords names (rs.refused f) = refused f
 
--- where so many blocks begin
-unfoldable pub firstBlock : ℕ → ℕ → Cursor
-firstBlock count at = record { at = at; blocks = count; inside = false }
-
 unfoldable pub onOpened : List ℕ → Opened → Parsed
-onOpened b (opened h names at) = withRecords names (recordsFrom b (h .maps) (firstBlock (h .blocks) at))
+onOpened b (opened h names at) = withRecords names (recordsFrom b (h .maps) (atBlock at (h .blocks)))
 onOpened b (shut f) = refused f
 
 unfoldable pub parse : List ℕ → Parsed
 parse b = onOpened b (openUnit b)
 
--- what the whole-file reader answers
-unfoldable pub foundWith : Found → Records → ReadUnit
-foundWith found (rs.records l) = U.Unit found
-foundWith found (rs.refused f) = U.Refused f
+-- the bytes of the records of maps with these names
+unfoldable pub mapBytes : List (List ℕ) → ℕ
+mapBytes [] = 0
+mapBytes (n ∷ ns) = 4 + length n + mapBytes ns
 
-unfoldable pub foundIn : List ℕ → Opened → ReadUnit
-foundIn b (opened h names at) = foundWith (record { maps = h .maps; blocks = h .blocks; body = at }) (recordsFrom b (h .maps) (firstBlock (h .blocks) at))
-foundIn b (shut f) = U.Refused f
+-- what the whole-file reader answers: how many maps and blocks there are, and where the blocks begin, after the head and the maps
+unfoldable pub foundOf : List ℕ → Parsed → ReadUnit
+foundOf b (parsed u) = U.Unit (record { maps = length (u .names); blocks = length (u .blocks); body = nextAt b 0 + mapBytes (u .names) })
+foundOf b (refused f) = U.Refused f
 
 unfoldable pub readUnit : List ℕ → ReadUnit
-readUnit b = foundIn b (openUnit b)
+readUnit b = foundOf b (parse b)
+
+-- every byte string is refused by the reader and by the definition alike, or it is a unit, and the reader's counts are those of its names and blocks
+pub data Decided (b : List ℕ) : Type 0 where
+  refusal : (f : Fault) → readUnit b ≡ U.Refused f → parse b ≡ refused f → Decided b
+  whole-unit : (found : Found) (u : UnitIr) → readUnit b ≡ U.Unit found → parse b ≡ parsed u → length (u .names) ≡ found .maps → length (u .blocks) ≡ found .blocks → Decided b

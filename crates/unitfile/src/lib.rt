@@ -4,28 +4,10 @@ mod walk;
 use opening::BodyAt;
 use opening::HeadAt;
 use opening::MapAt;
-use record::Due;
 use record::Fault;
-use record::Record;
 ghost use mathlib.Core.Path.{_≡_};
-ghost use Prim.Native.Nat.{_-_};
-ghost use Rattle.unitfile.specs.Records.{after, nextRecord};
 ghost use Rattle.unitfile.specs.Unit.{readUnit, parse};
-ghost use Rattle.unitfile.specs.MapName.{placeOf, nameOf, namedOf};
-
-// Where reading stands among the blocks: at which byte, how many blocks are still due, and whether one is open.
-pub struct Cursor {
-    pub at: usize,
-    pub blocks: u32,
-    pub inside: bool,
-}
-
-// A record and the next cursor, the end of the unit, or the refusal.
-pub enum Step {
-    Go(Record, Cursor),
-    End,
-    Refused(Fault),
-}
+ghost use Rattle.unitfile.specs.MapName.{placeOf, pointed, namePart, namedOf};
 
 // A unit that was read whole: how many maps and blocks it has, and where its blocks begin.
 pub struct Found {
@@ -53,65 +35,22 @@ pub enum MapPlace {
     Refused(Fault),
 }
 
-fn one_less(n: u32) -> u32
-    ensures { λ r. ⌜ r ≡ n - 1 ⌝ }
-{
-    if n == 0 {
-        return 0;
-    }
-    n - 1
-}
-
-// What is due after a record of a kind.
-pub(crate) fn after(c: Cursor, kind: u16, next: usize) -> Cursor
-    ensures { λ r. ⌜ r ≡ after c kind next ⌝ }
-{
-    if kind == 3 {
-        return Cursor {
-            at: next,
-            blocks: one_less(c.blocks),
-            inside: true,
-        };
-    }
-    Cursor {
-        at: next,
-        blocks: c.blocks,
-        inside: kind == 4,
-    }
-}
-
-// The record at a cursor, in a unit of so many maps.
-pub fn next_record(s: &[u8], maps: u16, c: Cursor) -> Step
-    ensures { λ r. ⌜ r ≡ nextRecord (now (s .entry)) maps c ⌝ }
-{
-    let at = c.at;
-    if c.inside {
-        return walk::on_record(c, record::read_record(s, at, Due::Inside, maps));
-    }
-    if c.blocks == 0 {
-        if at == s.len() {
-            return Step::End;
-        }
-        return Step::Refused(Fault::NotDue(at));
-    }
-    walk::on_record(c, record::read_record(s, at, Due::Block, maps))
-}
-
 // The whole file, read record by record.
 pub fn read_unit(s: &[u8]) -> ReadUnit
     ensures { λ r. ⌜ r ≡ readUnit (now (s .entry)) ⌝ }
 {
-    match opening::open_unit(s) {
-        BodyAt::Is(head, body) => walk::read_blocks(
-            s,
-            Found {
-                maps: head.maps,
-                blocks: head.blocks,
-                body: body,
-            },
-        ),
-        BodyAt::Refused(f) => ReadUnit::Refused(f),
-    }
+    let opened = opening::open_unit(s);
+    let BodyAt::Is(head, body) = opened else {
+        return walk::refused_unit(opened);
+    };
+    walk::read_blocks(
+        s,
+        Found {
+            maps: head.maps,
+            blocks: head.blocks,
+            body: body,
+        },
+    )
 }
 
 // Where the bytes of a map's name lie inside the unit.
@@ -143,9 +82,9 @@ pub fn map_place(s: &[u8], map: u32) -> MapPlace
     }
 }
 
-// The bytes of a map's name inside the unit; none for a refusal or where there is no such map.
+// The part of the unit that is a map's name; no bytes for a refusal or where there is no such map.
 pub fn map_name(s: &[u8], map: u32) -> &[u8]
-    ensures { λ r. ⌜ now r ≡ nameOf (parse (now (s .entry))) map ⌝ }
+    ensures { λ r. ⌜ pointed r ≡ namePart (s .entry) map ⌝ }
 {
     match map_place(s, map) {
         MapPlace::At { start, len } => {

@@ -2,6 +2,8 @@
 use libc::STDIN_FILENO;
 use libc::STDOUT_FILENO;
 use tracepoint::Compiled;
+use wire::number::ByteOffset;
+use wire::number::SlotNumber;
 use wire::refusal::Refusal;
 
 // The longest line: a relocation with a name of 64 bytes.
@@ -17,22 +19,22 @@ fn refused(r: Refusal) {
     show(&line, len);
 }
 
-fn counts(slots: u32, relocs: u32) {
+fn counts(slots: SlotNumber, relocs: u32) {
     let mut line = [0u8; 128];
     let len = text::put_counts(&mut line, 0, slots, relocs);
     show(&line, len);
 }
 
-fn slot(code: &[u8], number: u32) {
+fn slot(code: &[u8], number: SlotNumber) {
     let mut line = [0u8; 128];
     let len = text::put_slot(&mut line, 0, number, code);
     show(&line, len);
 }
 
-fn slots(code: &[u8], count: u32) {
+fn slots(code: &[u8], count: SlotNumber) {
     let mut i: u32 = 0;
-    while i < count {
-        slot(code, i);
+    while i < count.0 {
+        slot(code, SlotNumber(i));
         i += 1;
     }
 }
@@ -44,8 +46,9 @@ fn number_at(numbers: &[u32], i: usize) -> u32 {
     0
 }
 
-fn reloc(unit: &[u8], offset: u32, map: u32) {
+fn reloc(unit: &[u8], number: u32, map: u32) {
     let mut line = [0u8; 128];
+    let offset = ByteOffset(number as u64);
     let len = text::put_reloc(&mut line, 0, offset, unitfile::map_name(unit, map));
     show(&line, len);
 }
@@ -62,8 +65,8 @@ fn relocs(unit: &[u8], pairs: &[u32], count: u32) {
 fn list(unit: &[u8], code: &mut [u8], pairs: &mut [u32]) {
     match tracepoint::compile_tracepoint(unit, code, pairs) {
         Compiled::Done(n, m) => {
-            counts(n, m);
-            slots(code, n);
+            counts(SlotNumber(n), m);
+            slots(code, SlotNumber(n));
             relocs(unit, pairs, m);
         }
         Compiled::Refused(f) => refused(tracepoint::refusal(f)),

@@ -14,11 +14,7 @@ use mir.Syntax.{Width, w8, w16, w32, w64, w128}
 use mir.Val.{SFits, toZ, ofZ, bits}
 use mir.ValLaws.{toZ-ofZ, ofZ-toZ, ofZ-fits}
 use Rattle.wire.specs.Pick.{pick}
-use Rattle.wire.specs.Le.{octets, le, bytesOf, unsignedAt, signedAt, unsignedBytes, signedBytes}
-
--- a list of bytes
-pub record Bytes (b : List ℕ) : Type 0 where
-  pub at : (i : ℕ) → getD b i 0 < 256
+use Rattle.wire.specs.Le.{octets, Bytes, le, bytesOf, unsignedAt, signedAt, unsignedBytes, signedBytes}
 
 pub bytes-append : (p q : List ℕ) → Bytes p → Bytes q → Bytes (p ++ q)
 bytes-append p q h l = record { at = go p (h .at) }

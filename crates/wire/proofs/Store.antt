@@ -2,21 +2,21 @@
 use mathlib.Core.Path.{_≡_, refl, ap, _∙_, sym}
 use mathlib.Core.Bool.{Bool, true, false}
 use mathlib.Core.Logic.{_⊎_, inl, inr, ⊎-elim}
-use mathlib.Core.List.{List, [], _∷_, _++_}
+use mathlib.Core.List.{List, [], _∷_, _++_, append-assoc}
 use Prim.Native.Nat.{ℕ, zero, suc, _+_, _/_, _^_, _<_, _≤_}
 use native.Mathlib.Nat.{add-zero, add-suc, suc-add}
 use native.Mathlib.Omega.{arith}
-use borrow.Author.Tests.{le-leb, lt-leb}
+use borrow.Author.Tests.{le-leb, lt-leb, leb-true, leb-false}
 use lib.Dec.{leb}
 use lib.IntN.{ℤ}
-use lib.ListN.{length, getD, set, take, drop, length-append}
-use lib.Seq.{sets, sets-eq, length-sets, getD-set-other, length-take-le}
+use lib.ListN.{length, getD, set, take, drop, length-append, length-drop, take-append-drop}
+use lib.Seq.{sets, sets-eq, length-sets, getD-set-other, length-take-le, drop-drop}
 use mir.Syntax.{Width}
 use mir.Val.{SFits, toZ, ofZ, bits}
-use mir.ValLaws.{toZ-ofZ, ofZ-fits}
+use mir.ValLaws.{toZ-ofZ, ofZ-toZ, ofZ-fits}
 use Rattle.wire.specs.Pick.{pick}
-use Rattle.wire.specs.Le.{octets, bytesOf, unsignedAt, signedAt, unsignedBytes, signedBytes, store}
-use Rattle.wire.proofs.Le.{Bytes, le-same, bytesOf-length, bytesOf-split, unsigned-length, unsigned-inside, unsigned-of-bytes}
+use Rattle.wire.specs.Le.{octets, Bytes, bytesOf, unsignedAt, signedAt, unsignedBytes, signedBytes, store}
+use Rattle.wire.proofs.Le.{le-same, bytesOf-length, bytesOf-split, unsigned-length, unsigned-below, unsigned-of-bytes, bytes-of-unsigned}
 
 -- ---- a run of elements
 
@@ -85,7 +85,7 @@ module _ (b : List ℕ) (i : ℕ) (v : List ℕ) where
       go true = sets-bytes v b i h l
       go false = h
 
-  pub byte-elsewhere : (j : ℕ) → (j < i) ⊎ (i + length v ≤ j) → getD (store b i v) j 0 ≡ getD b j 0
+  byte-elsewhere : (j : ℕ) → (j < i) ⊎ (i + length v ≤ j) → getD (store b i v) j 0 ≡ getD b j 0
   unfolding store
   byte-elsewhere j h = go (leb (i + length v) (length b))
     where
@@ -100,6 +100,13 @@ store-run b i u v h =
     ∙ store-in (sets b i u) (i + length u) v (simp length-sets (omega arith))
     ∙ sets-run u v b i
     ∙ sym (store-in b i (u ++ v) (simp length-append (omega arith)))
+
+-- the n bytes that stand there
+store-there : (b : List ℕ) (i n : ℕ) → i + n ≤ length b → store b i (take n (drop i b)) ≡ b
+store-there b i n h =
+    let m : length (take n (drop i b)) ≡ n = length-take-le n (drop i b) (simp length-drop (omega arith)) in
+    store-parts b i (take n (drop i b)) (omega arith)
+    ∙ rw (m, append-assoc, ← drop-drop n i b, take-append-drop n (drop i b)) (take-append-drop i b)
 
 -- ---- a number of a width
 
@@ -118,17 +125,6 @@ module _ (w : Width) where
   unfolding signedBytes
   write-signed b i z f e g = g ∙ ap (λ (x : ℕ). store b i (unsignedBytes w x)) (e ∙ ap (ofZ w) (toZ-ofZ w z f))
 
-  -- inside the bytes that were stored stands what stands in them
-  pub unsigned-stored : (b : List ℕ) (i : ℕ) (v : List ℕ) (k : ℕ) → i + length v ≤ length b → k + octets w ≤ length v → unsignedAt w (store b i v) (i + k) ≡ unsignedAt w v k
-  unsigned-stored b i v k h l =
-      ap (λ (c : List ℕ). unsignedAt w c (i + k)) (store-parts b i v h)
-      ∙ ap (λ (j : ℕ). unsignedAt w (take i b ++ v ++ drop (i + length v) b) (j + k)) (sym (length-take-le i b (omega arith)))
-      ∙ unsigned-inside w (take i b) v (drop (i + length v) b) k l
-
-  pub signed-stored : (b : List ℕ) (i : ℕ) (v : List ℕ) (k : ℕ) → i + length v ≤ length b → k + octets w ≤ length v → signedAt w (store b i v) (i + k) ≡ signedAt w v k
-  unfolding signedAt
-  signed-stored b i v k h l = ap (toZ w) (unsigned-stored b i v k h l)
-
   -- a number that was written is read
   pub unsigned-back : (b : List ℕ) (i x : ℕ) → i + octets w ≤ length b → x < 2 ^ bits w → unsignedAt w (store b i (unsignedBytes w x)) i ≡ x
   unsigned-back b i x h l =
@@ -139,6 +135,24 @@ module _ (w : Width) where
   pub signed-back : (b : List ℕ) (i : ℕ) (z : ℤ) → i + octets w ≤ length b → SFits w z → signedAt w (store b i (signedBytes w z)) i ≡ z
   unfolding signedAt signedBytes
   signed-back b i z h f = ap (toZ w) (unsigned-back b i (ofZ w z) h (ofZ-fits w z f .fits)) ∙ toZ-ofZ w z f
+
+  -- a number that was read is written: nothing changes, wherever it was read
+  pub unsigned-unchanged : (b : List ℕ) (i : ℕ) → Bytes b → store b i (unsignedBytes w (unsignedAt w b i)) ≡ b
+  unsigned-unchanged b i h = go (leb (i + octets w) (length b)) refl
+    where
+      go : (t : Bool) → leb (i + octets w) (length b) ≡ t → store b i (unsignedBytes w (unsignedAt w b i)) ≡ b
+      go true e =
+          let l : i + octets w ≤ length b = leb-true _ _ e in
+          ap (store b i) (bytes-of-unsigned w b i h l) ∙ store-there b i (octets w) l
+      go false e =
+          let l : length b < i + octets w = leb-false _ _ e in
+          store-out b i (unsignedBytes w (unsignedAt w b i)) (omega (arith, unsigned-length w (unsignedAt w b i)))
+
+  pub signed-unchanged : (b : List ℕ) (i : ℕ) → Bytes b → store b i (signedBytes w (signedAt w b i)) ≡ b
+  unfolding signedAt signedBytes
+  signed-unchanged b i h =
+      ap (λ (x : ℕ). store b i (unsignedBytes w x)) (ofZ-toZ w (unsignedAt w b i) (record { fits = unsigned-below w b i h }))
+      ∙ unsigned-unchanged b i h
 
   -- a number that lies elsewhere is read as before
   pub unsigned-elsewhere : (b : List ℕ) (i : ℕ) (v : List ℕ) (j : ℕ) → (j + octets w ≤ i) ⊎ (i + length v ≤ j) → unsignedAt w (store b i v) j ≡ unsignedAt w b j

@@ -1,5 +1,5 @@
 -- Little-endian numbers in bytes, the lowest byte first, at each width.
-use Prim.Native.Nat.{ℕ, zero, suc, _+_, _*_, _/_, _%_}
+use Prim.Native.Nat.{ℕ, zero, suc, _+_, _*_, _/_, _%_, _<_}
 use mathlib.Core.List.{List, [], _∷_}
 use lib.Dec.{leb}
 use lib.IntN.{ℤ}
@@ -20,6 +20,10 @@ octets w128 = 16
 -- the byte at i, and 0 past the end
 abbrev pub byteAt : List ℕ → ℕ → ℕ
 byteAt b i = getD b i 0
+
+-- a list of bytes
+pub record Bytes (b : List ℕ) : Type 0 where
+  pub at : (i : ℕ) → byteAt b i < 256
 
 -- the number of the n bytes from i on
 unfoldable pub le : ℕ → List ℕ → ℕ → ℕ

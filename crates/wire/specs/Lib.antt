@@ -1,3 +1,5 @@
 pub mod Pick
 pub mod Le
 pub mod Number
+pub mod Range
+pub mod Bit

@@ -1,5 +1,6 @@
 // Little-endian numbers in lent bytes. A number that does not lie whole in the bytes reads as 0 and is not written.
 pub mod number;
+pub mod range;
 pub mod refusal;
 
 ghost use mathlib.Core.Path.{_≡_};
@@ -82,6 +83,7 @@ pub fn get_u64(b: &[u8], i: usize) -> u64
 
 // ---- two's complement
 
+// A signed number from its bits.
 fn sign16(x: u16) -> i16
     ensures { λ r. ⌜ r ≡ toZ w16 x ⌝ }
 {
@@ -92,7 +94,7 @@ fn sign16(x: u16) -> i16
     }
 }
 
-fn sign32(x: u32) -> i32
+pub fn sign32(x: u32) -> i32
     ensures { λ r. ⌜ r ≡ toZ w32 x ⌝ }
 {
     if x < 2147483648 {
@@ -102,7 +104,7 @@ fn sign32(x: u32) -> i32
     }
 }
 
-fn sign64(x: u64) -> i64
+pub fn sign64(x: u64) -> i64
     ensures { λ r. ⌜ r ≡ toZ w64 x ⌝ }
 {
     if x < 9223372036854775808 {
@@ -133,7 +135,7 @@ pub fn bits32(z: i32) -> u32
     }
 }
 
-fn bits64(z: i64) -> u64
+pub fn bits64(z: i64) -> u64
     ensures { λ r. ⌜ r ≡ ofZ w64 z ⌝ }
 {
     if z < 0 {
@@ -216,12 +218,6 @@ pub fn put_u64(b: &mut [u8], i: usize, x: u64)
         set_four(b, i, x);
         set_four(b, i + 4, x / 4294967296);
     }
-}
-
-pub fn put_i16(b: &mut [u8], i: usize, z: i16)
-    ensures { λ _. ⌜ now (b .exit) ≡ store (now (b .entry)) i (signedBytes w16 z) ⌝ }
-{
-    put_u16(b, i, bits16(z))
 }
 
 pub fn put_i32(b: &mut [u8], i: usize, z: i32)

@@ -1,4 +1,3 @@
-pub mod Bit
 pub mod LowestBit
 pub mod Total
 pub mod Words

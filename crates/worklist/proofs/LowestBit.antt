@@ -1,15 +1,15 @@
 -- The lowest set bit of a number, by `trailing_zeros`: which it is, and the number without it.
 use mathlib.Core.Path.{_≡_, refl, sym, ap, _∙_, subst}
-use Prim.Native.Nat.{ℕ, zero, suc, _-_, _*_, _/_, _%_, _^_, _<_}
-use native.Mathlib.Nat.{pow-suc, le-of-suc-le-suc, one-mul}
+use Prim.Native.Nat.{ℕ, zero, suc, _-_, _/_, _%_, _^_, _<_}
+use native.Mathlib.Nat.{pow-suc, le-of-suc-le-suc}
 use native.Mathlib.Omega.{arith}
 use native.Mathlib.Decide.{decLt}
-use lib.Bits.{bitOr}
 use lib.Count.{trailingZeros, under}
-use lib.Pow.{pow-mono, shl-exact}
-use Rattle.worklist.specs.Words.{bit, Lowest}
+use lib.Pow.{pow-mono}
+use Rattle.wire.specs.Bit.{bit}
+use Rattle.wire.proofs.Bits.{bit-zero, bit-suc}
+use Rattle.worklist.specs.Words.{Lowest}
 use Rattle.worklist.specs.Set.{lowestBit}
-use Rattle.worklist.proofs.Bit.{bit-le, bit-or, bit-zero, bit-suc}
 
 pub lowest : (k n : ℕ) → 0 < n → n < 2 ^ k → Lowest n (trailingZeros k n)
 unfolding trailingZeros
@@ -75,17 +75,6 @@ one-lowest n y z Y Z = go (decLt y z) (decLt z y)
 pub zeros-lowest : (k n : ℕ) → 0 < n → n < 2 ^ k → trailingZeros k n ≡ lowestBit n
 zeros-lowest k n p l = one-lowest n (trailingZeros k n) (lowestBit n) (lowest k n p l) (lowest-bit n p)
 
--- a set bit b of x | 2 ^ b, and the other bits stay
-pub bit-pow : (b : ℕ) → bit (2 ^ b) b ≡ 1
-bit-pow zero = bit-zero 1
-bit-pow (suc b) = bit-suc (2 ^ suc b) b ∙ ap (λ (x : ℕ). bit x b) (omega (arith, pow-suc 2 b)) ∙ bit-pow b
-
-pub or-pow : (x b : ℕ) → bit (bitOr x (2 ^ b)) b ≡ 1
-or-pow x b = omega (arith, bit-or x (2 ^ b) b, bit-pow b, bit-le x b)
-
-pub or-keeps : (x y r : ℕ) → bit x r ≡ 1 → bit (bitOr x y) r ≡ 1
-or-keeps x y r e = omega (arith, bit-or x y r, bit-le y r)
-
 -- the lowest set bit of a number below 2 ^ k is below k
 pub lowest-below : (k n z : ℕ) → n < 2 ^ k → Lowest n z → z < k
 lowest-below k n z l L = go (decLt z k)
@@ -93,7 +82,3 @@ lowest-below k n z l L = go (decLt z k)
     go : Dec (z < k) → z < k
     go (yes h) = h
     go (no h) = absurd (omega (arith, pow-mono {i = k} {j = z} (omega arith), L .has))
-
--- a shift of 1 within a width
-pub shl-one : (k w : ℕ) → k < w → 1 * 2 ^ k % 2 ^ w ≡ 2 ^ k
-shl-one k w h = shl-exact 1 k w (omega arith) (omega arith) ∙ one-mul (2 ^ k)

@@ -12,11 +12,12 @@ use lib.ListN.{length, getD, set, length-set, List·getD-eq-default, replicate, 
 use lib.Seq.{getD-set-same}
 use borrow.Author.Tests.{ltb-true, ltb-false, leb-true, leb-false, eqb-true, eqb-false}
 use Rattle.wire.specs.Pick.{pick, either}
-use Rattle.worklist.specs.Words.{bit, Lowest, total, itself, listed, Sound, weight, Marked, Took}
+use Rattle.wire.specs.Bit.{bit}
+use Rattle.wire.proofs.Bits.{nonzero, or-pow, or-keeps}
+use Rattle.worklist.specs.Words.{Lowest, total, itself, listed, Sound, weight, Marked, Took}
 use Rattle.worklist.specs.Set.{withBit, withoutBit, markedLow, markedMid, markedTop, lowestBit, Lead, Lead.nowhere, Lead.toSummary, Lead.toWord, Lead.toSlot, fromWord, fromSummary, lead, takenLow, takenMid, taken}
 use Rattle.worklist.specs.declared.Taken.{Taken}
-use Rattle.worklist.proofs.Bit.{nonzero}
-use Rattle.worklist.proofs.LowestBit.{or-pow, or-keeps, lowest-bit, lowest-below}
+use Rattle.worklist.proofs.LowestBit.{lowest-bit, lowest-below}
 use Rattle.worklist.proofs.Total.{total-set, after-set}
 
 mk-here : (l : List ℕ) (i b : ℕ) → i < length l → bit (getD (withBit l i b) i 0) b ≡ 1

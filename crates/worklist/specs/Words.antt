@@ -3,10 +3,8 @@ use Prim.Native.Nat.{ℕ, _+_, _-_, _/_, _%_, _^_, _≤_, _<_}
 use mathlib.Core.Path.{_≡_}
 use mathlib.Core.List.{List, [], _∷_}
 use lib.ListN.{length, getD}
+use Rattle.wire.specs.Bit.{bit}
 use Rattle.worklist.specs.declared.Taken.{Taken}
-
-unfoldable pub bit : ℕ → ℕ → ℕ
-bit x r = x / 2 ^ r % 2
 
 -- z is the lowest set bit of n, and n − 2^z is n without it
 pub record Lowest (n z : ℕ) : Type 0 where

@@ -27,14 +27,14 @@ loop-holds c =
 sub-k : tie.Need-sub-k Inv-loop μ-loop
 sub-k c = omega arith
 
-mul-wide : tie.Need-mul-wide Inv-loop μ-loop
-mul-wide c = let r = c .before .loop .inv .2 in omega (arith, r .few, r .room)
+mul-wide32 : tie.Need-mul-wide32 Inv-loop μ-loop
+mul-wide32 c = let r = c .before .loop .inv .2 in omega (arith, r .few, r .room)
 
-slice-read-wide : tie.Need-slice-read-wide Inv-loop μ-loop
-slice-read-wide c = let r = c .before .before .loop .inv .2 in omega (arith, r .few, r .room)
+slice-read-wide32 : tie.Need-slice-read-wide32 Inv-loop μ-loop
+slice-read-wide32 c = let r = c .before .before .loop .inv .2 in omega (arith, r .few, r .room)
 
-wide-requires : tie.Need-wide-requires Inv-loop μ-loop
-wide-requires c κs = search needs
+wide32-requires : tie.Need-wide32-requires Inv-loop μ-loop
+wide32-requires c κs = search needs
 
 slice-read-if2 : tie.Need-slice-read-if2 Inv-loop μ-loop
 slice-read-if2 c = omega (arith, c .before .before .before .before .before .loop .inv .2 .size)
@@ -47,7 +47,7 @@ push-targets-requires c κs =
     let w = c .before .before .before .before in
     let l = w .before .before .before in
     let s = l .before .before .before .before .before in
-    let v = visit-room (l .loop .inv .2) (omega arith) (w .wide .ensures) (omega arith) (c .before .if2 .taken) in
+    let v = visit-room (l .loop .inv .2) (omega arith) (w .wide32 .ensures) (omega arith) (c .before .if2 .taken) in
     omega (arith, s .pre .0, s .pre .1)
 
 loop-less : tie.Need-loop-less Inv-loop μ-loop
@@ -55,7 +55,7 @@ loop-less c =
     let p = c .before .before in
     let w = p .before .before .before .before .before in
     let l = w .before .before .before in
-    let v = visit-less (l .loop .inv .2) (omega arith) (w .wide .ensures) (omega arith) (p .before .before .if2 .taken) in
+    let v = visit-less (l .loop .inv .2) (omega arith) (w .wide32 .ensures) (omega arith) (p .before .before .if2 .taken) in
     omega (arith, p .push-targets .ensures .0)
 
 loop-again : tie.Need-loop-again Inv-loop μ-loop
@@ -64,7 +64,7 @@ loop-again c =
     let w = p .before .before .before .before .before in
     let l = w .before .before .before in
     let e = p .push-targets .ensures in
-    let v = reaching-visit (l .loop .inv .2) (omega arith) (w .wide .ensures) (omega arith) (p .before .before .if2 .taken) in
+    let v = reaching-visit (l .loop .inv .2) (omega arith) (w .wide32 .ensures) (omega arith) (p .before .before .if2 .taken) in
     (simp length-set (l .loop .inv .0), omega arith, rw (e .0, e .1) v)
 
 loop-less-2 : tie.Need-loop-less-2 Inv-loop μ-loop
@@ -74,7 +74,7 @@ loop-again-2 : tie.Need-loop-again-2 Inv-loop μ-loop
 loop-again-2 c =
     let w = c .before .before .before in
     let i = w .before .before .before .loop .inv in
-    (i .0, i .1, skip-marked (i .2) (omega arith) (w .wide .ensures) (c .if2 .left))
+    (i .0, i .1, skip-marked (i .2) (omega arith) (w .wide32 .ensures) (c .if2 .left))
 
 loop-less-3 : tie.Need-loop-less-3 Inv-loop μ-loop
 loop-less-3 c = omega arith
@@ -83,7 +83,7 @@ loop-again-3 : tie.Need-loop-again-3 Inv-loop μ-loop
 loop-again-3 c =
     let w = c .before in
     let i = w .before .before .before .loop .inv in
-    (i .0, i .1, skip-past (i .2) (omega arith) (w .wide .ensures) (c .if1 .left))
+    (i .0, i .1, skip-past (i .2) (omega arith) (w .wide32 .ensures) (c .if1 .left))
 
 same-length : tie.Need-same-length Inv-loop μ-loop
 same-length c = c .before .loop .inv .0
@@ -109,9 +109,9 @@ reach-spec =
     slice-write-pending
     loop-holds
     sub-k
-    mul-wide
-    slice-read-wide
-    wide-requires
+    mul-wide32
+    slice-read-wide32
+    wide32-requires
     slice-read-if2
     slice-write-marks
     push-targets-requires

@@ -1,6 +1,5 @@
 -- `insn_at` reads the fields of the instruction at a byte; past the end all are 0.
 use mathlib.Core.Path.{sym, _∙_}
-use native.Mathlib.Omega.{arith}
 use mir.Syntax.{w16, w32}
 use borrow.Author.Needs.{needs}
 use Rattle.wire.proofs.Sign.{back}
@@ -37,7 +36,7 @@ returns-2 c =
     let s = c .before .before .before .before .before .before .before in
     let off = back w16 (c .before .get-i16 .result) (c .before .get-i16 .ok) ∙ c .before .get-i16 .ensures in
     let imm = back w32 (c .get-i32 .result) (c .get-i32 .ok) ∙ c .get-i32 .ensures in
-    insn-part (s .args .b .now) (s .args .at) (omega arith) (c .before .before .get-u82 .ensures) (c .before .before .before .get-u8 .ensures) off imm
+    insn-part (s .args .b .now) (s .args .at) (c .before .before .get-u82 .ensures) (c .before .before .before .get-u8 .ensures) off imm
 
 pub insn-at-spec : {M : Type 1} → statement M
 insn-at-spec =

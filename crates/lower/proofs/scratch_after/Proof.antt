@@ -1,6 +1,6 @@
 -- The ring moves on at the operands whose address is taken.
 use mathlib.Core.Path.{refl, sym, _∙_}
-use Rattle.record.specs.Instruction.{fieldsAt}
+use Rattle.record.specs.Instruction.{fieldsIn}
 use Rattle.lower.specs.Instruction.{scratchBy}
 use Rattle.lower.specs.Payload.{scratchIn}
 use Rattle.lower.proofs.Codes.{is-call-map, is-update-map, stays, moved}
@@ -24,22 +24,22 @@ after-two-requires : tie.Need-after-two-requires
 after-two-requires c κs = search needs
 
 returns : tie.Need-returns
-unfolding scratchBy fieldsAt
+unfolding scratchBy fieldsIn
 returns c =
     let s = c .before .before .before .before .before in
-    c .after-first .ensures ∙ moved (s .args .payload .now) (c .before .get-u82 .ensures) (is-call-map (fieldsAt (s .args .payload .now) 0) (c .before .before .before .get-u8 .ensures) (c .before .before .match .keys1)) refl (s .args .j)
+    c .after-first .ensures ∙ moved (s .args .payload .now) (c .before .get-u82 .ensures) (is-call-map (fieldsIn (s .args .payload .now) 0) (c .before .before .before .get-u8 .ensures) (c .before .before .match .keys1)) refl (s .args .j)
 
 returns-2 : tie.Need-returns-2
-unfolding scratchBy fieldsAt
+unfolding scratchBy fieldsIn
 returns-2 c =
     let s = c .before .before .before .before .before in
-    c .after-two .ensures ∙ moved (s .args .payload .now) (c .before .get-u83 .ensures) (is-update-map (fieldsAt (s .args .payload .now) 0) (c .before .before .before .get-u8 .ensures) (c .before .before .match .keys2)) refl (s .args .j)
+    c .after-two .ensures ∙ moved (s .args .payload .now) (c .before .get-u83 .ensures) (is-update-map (fieldsIn (s .args .payload .now) 0) (c .before .before .before .get-u8 .ensures) (c .before .before .match .keys2)) refl (s .args .j)
 
 returns-3 : tie.Need-returns-3
-unfolding scratchIn fieldsAt
+unfolding scratchIn fieldsIn
 returns-3 c =
     let s = c .before .before .before in
-    sym (stays (fieldsAt (s .args .payload .now) 0) (c .before .get-u8 .ensures) (s .args .j) _ (c .match .rest .0 .1) (c .match .rest .1))
+    sym (stays (fieldsIn (s .args .payload .now) 0) (c .before .get-u8 .ensures) (s .args .j) _ (c .match .rest .0 .1) (c .match .rest .1))
 
 pub scratch-after-spec : {M : Type 1} → statement M
 scratch-after-spec = tie.close (tie.spec get-u8-requires get-u8-requires-2 after-first-requires get-u8-requires-3 after-two-requires returns returns-2 returns-3)

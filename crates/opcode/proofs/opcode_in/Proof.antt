@@ -1,12 +1,12 @@
 -- `opcode_in` is `opcodeIn`, arm by arm.
-use mathlib.Core.Path.{_≡_}
+use mathlib.Core.Path.{_≡_, refl, sym}
 use native.Mathlib.Omega.{arith}
-use borrow.Author.Tests.{ne-eqb}
 use borrow.Author.Needs.{needs}
 use mir.Syntax.{w32}
 use mir.Val.{toZ, ofZ}
 use Rattle.wire.proofs.Sign.{back}
 use Rattle.opcode.specs.Opcode.{opcodeIn}
+use Rattle.opcode.proofs.Opcodes.{else-load-key}
 use Rattle.opcode.proofs.opcode_in.Statement.{statement}
 use Rattle.opcode.proofs.opcode_in.Tie as tie
 
@@ -68,8 +68,7 @@ unfolding opcodeIn
 returns-12 c = simp (c .match .keys12)
 
 returns-13 : tie.Need-returns-13
-unfolding opcodeIn
-returns-13 c = simp (ne-eqb _ 1 (c .match .rest .0 .0 .0 .0 .0 .0 .0 .0 .0 .0 .0 .1), ne-eqb _ 2 (c .match .rest .0 .0 .0 .0 .0 .0 .0 .0 .0 .0 .1), ne-eqb _ 3 (c .match .rest .0 .0 .0 .0 .0 .0 .0 .0 .0 .1), ne-eqb _ 4 (c .match .rest .0 .0 .0 .0 .0 .0 .0 .0 .1), ne-eqb _ 5 (c .match .rest .0 .0 .0 .0 .0 .0 .0 .1), ne-eqb _ 6 (c .match .rest .0 .0 .0 .0 .0 .0 .1), ne-eqb _ 7 (c .match .rest .0 .0 .0 .0 .0 .1), ne-eqb _ 8 (c .match .rest .0 .0 .0 .0 .1), ne-eqb _ 9 (c .match .rest .0 .0 .0 .1), ne-eqb _ 10 (c .match .rest .0 .0 .1), ne-eqb _ 11 (c .match .rest .0 .1), ne-eqb _ 12 (c .match .rest .1))
+returns-13 c = sym (else-load-key (c .before .before .args .f) refl (c .match .rest .0 .0 .0 .0 .0 .0 .0 .0 .0 .0 .0 .1) (c .match .rest .0 .0 .0 .0 .0 .0 .0 .0 .0 .1) (c .match .rest .0 .0 .0 .0 .0 .0 .0 .0 .1) (c .match .rest .0 .0 .0 .0 .0 .0 .0 .1) (c .match .rest .0 .0 .0 .0 .0 .0 .1) (c .match .rest .0 .0 .0 .0 .0 .1) (c .match .rest .0 .0 .0 .0 .1) (c .match .rest .0 .0 .0 .1) (c .match .rest .0 .0 .1) (c .match .rest .0 .1) (c .match .rest .1))
 
 pub opcode-in-spec : {M : Type 1} → statement M
 opcode-in-spec =

@@ -1,5 +1,5 @@
--- `opcode_ok` is the rules of `opcodeOf`, arm by arm.
-use mathlib.Core.Path.{_≡_, ap, _∙_}
+-- `opcode_ok` tests, arm by arm, that the fields are those of their opcode again.
+use mathlib.Core.Path.{_≡_, refl, ap, _∙_}
 use native.Mathlib.Omega.{arith}
 use borrow.Author.Tests.{ne-eqb}
 use borrow.Author.Needs.{needs}
@@ -8,8 +8,8 @@ use mir.Syntax.{w32}
 use mir.Val.{toZ, ofZ}
 use Rattle.wire.specs.Pick.{both, isZero}
 use Rattle.wire.proofs.Sign.{back}
-use Rattle.opcode.specs.Opcode.{opcodeOf, isOpcode, numbered}
-use Rattle.opcode.proofs.Opcodes.{ok-when, ok-when-map}
+use Rattle.opcode.specs.Opcode.{fieldsOf, opcodeIn, mapOk, sameFields, opcodeOf, isOpcode}
+use Rattle.opcode.proofs.Opcodes.{both-yes, both-group, itself, same-itself, same-zero, small-again, again, else-load-key, ok-picked}
 use Rattle.opcode.proofs.opcode_ok.Statement.{statement}
 use Rattle.opcode.proofs.opcode_ok.Tie as tie
 
@@ -49,8 +49,8 @@ both-requires-6 c κs = search needs
 both-requires-7 : tie.Need-both-requires-7
 both-requires-7 c κs = search needs
 
-is-map-requires : tie.Need-is-map-requires
-is-map-requires c κs = search needs
+map-of-requires : tie.Need-map-of-requires
+map-of-requires c κs = search needs
 
 both-requires-8 : tie.Need-both-requires-8
 both-requires-8 c κs = search needs
@@ -58,57 +58,62 @@ both-requires-8 c κs = search needs
 both-requires-9 : tie.Need-both-requires-9
 both-requires-9 c κs = search needs
 
+both-requires-10 : tie.Need-both-requires-10
+both-requires-10 c κs = search needs
+
 returns : tie.Need-returns
-unfolding opcodeOf
-returns c = simp (c .match .keys1, number-only (c .before), ok-when)
+unfolding opcodeOf sameFields fieldsOf opcodeIn mapOk
+returns c = simp (c .match .keys1, number-only (c .before), ok-picked, itself, same-zero, both-yes)
 
 returns-2 : tie.Need-returns-2
-unfolding opcodeOf
-returns-2 c = simp (c .before .match .keys2, c .both3 .ensures, small-only (c .before .before), ok-when)
+unfolding opcodeOf sameFields fieldsOf opcodeIn mapOk
+returns-2 c = simp (c .before .match .keys2, c .both3 .ensures, small-only (c .before .before), ok-picked, same-zero, both-yes)
 
 returns-3 : tie.Need-returns-3
-unfolding opcodeOf
-returns-3 c = simp (c .match .keys3, small-only (c .before), ok-when)
+unfolding opcodeOf sameFields fieldsOf opcodeIn mapOk
+returns-3 c = simp (c .match .keys3, small-only (c .before), ok-picked, itself, same-zero, both-yes)
 
 returns-4 : tie.Need-returns-4
-unfolding opcodeOf
-returns-4 c = simp (c .match .keys4, ok-when)
+unfolding opcodeOf sameFields fieldsOf opcodeIn mapOk
+returns-4 c = simp (c .match .keys4, ok-picked, itself, same-itself, both-yes)
 
 returns-5 : tie.Need-returns-5
-unfolding opcodeOf
-returns-5 c = simp (c .match .keys5, ok-when)
+unfolding opcodeOf sameFields fieldsOf opcodeIn mapOk
+returns-5 c = simp (c .match .keys5, ok-picked, itself, same-itself, both-yes)
 
 returns-6 : tie.Need-returns-6
-unfolding opcodeOf
-returns-6 c = simp (c .match .keys6, ok-when)
+unfolding opcodeOf sameFields fieldsOf opcodeIn mapOk
+returns-6 c = simp (c .match .keys6, ok-picked, itself, same-itself, both-yes)
 
 returns-7 : tie.Need-returns-7
-unfolding opcodeOf
-returns-7 c = simp (c .before .match .keys7, c .both4 .ensures, small-only (c .before .before), ok-when)
+unfolding opcodeOf sameFields fieldsOf opcodeIn mapOk
+returns-7 c = simp (c .before .match .keys7, c .both4 .ensures, small-only (c .before .before), ok-picked, same-zero, both-yes)
 
 returns-8 : tie.Need-returns-8
-unfolding opcodeOf
-returns-8 c = simp (c .before .match .keys8, c .both5 .ensures, small-only (c .before .before), ok-when)
+unfolding opcodeOf sameFields fieldsOf opcodeIn mapOk
+returns-8 c = simp (c .before .match .keys8, c .both5 .ensures, small-only (c .before .before), small-again, ok-picked, same-zero, both-yes)
 
 returns-9 : tie.Need-returns-9
-unfolding opcodeOf numbered
-returns-9 c = simp (c .before .match .keys9, c .both6 .ensures, number-only (c .before .before), ok-when-map)
+unfolding opcodeOf sameFields fieldsOf opcodeIn mapOk
+returns-9 c = simp (c .before .match .keys9, c .both6 .ensures, number-only (c .before .before), ok-picked, itself, same-zero, both-yes)
 
 returns-10 : tie.Need-returns-10
-unfolding opcodeOf numbered
-returns-10 c = simp (c .before .match .keys10, c .both7 .ensures, number-only (c .before .before), ok-when-map)
+unfolding opcodeOf sameFields fieldsOf opcodeIn mapOk
+returns-10 c = simp (c .before .match .keys10, c .both7 .ensures, number-only (c .before .before), ok-picked, itself, same-zero, both-yes)
 
 returns-11 : tie.Need-returns-11
-unfolding opcodeOf
-returns-11 c = simp (c .before .before .match .keys11, c .both8 .ensures, c .before .is-map .ensures, offset-word (c .before .before .before .before .before .before), ok-when-map)
+unfolding opcodeOf sameFields fieldsOf opcodeIn mapOk
+returns-11 c =
+    let start = c .before .before .before .before .before .before .before .before in
+    simp (c .before .before .before .match .keys11, c .both9 .ensures, c .before .both8 .ensures, c .before .before .map-of .ensures, offset-word (c .before .before .before .before .before .before .before), again (start .args .f .offset) (record { sfits = omega (arith, c .before .before .before .before .before .before .before .struct-told .given) }), ok-picked, itself, both-yes, both-group)
 
 returns-12 : tie.Need-returns-12
-unfolding opcodeOf numbered
-returns-12 c = simp (c .before .match .keys12, c .both9 .ensures, number-only (c .before .before), ok-when-map)
+unfolding opcodeOf sameFields fieldsOf opcodeIn mapOk
+returns-12 c = simp (c .before .match .keys12, c .both10 .ensures, number-only (c .before .before), ok-picked, itself, same-zero, both-yes)
 
 returns-13 : tie.Need-returns-13
-unfolding opcodeOf isOpcode
-returns-13 c = simp (ne-eqb _ 1 (c .match .rest .0 .0 .0 .0 .0 .0 .0 .0 .0 .0 .0 .1), ne-eqb _ 2 (c .match .rest .0 .0 .0 .0 .0 .0 .0 .0 .0 .0 .1), ne-eqb _ 3 (c .match .rest .0 .0 .0 .0 .0 .0 .0 .0 .0 .1), ne-eqb _ 4 (c .match .rest .0 .0 .0 .0 .0 .0 .0 .0 .1), ne-eqb _ 5 (c .match .rest .0 .0 .0 .0 .0 .0 .0 .1), ne-eqb _ 6 (c .match .rest .0 .0 .0 .0 .0 .0 .1), ne-eqb _ 7 (c .match .rest .0 .0 .0 .0 .0 .1), ne-eqb _ 8 (c .match .rest .0 .0 .0 .0 .1), ne-eqb _ 9 (c .match .rest .0 .0 .0 .1), ne-eqb _ 10 (c .match .rest .0 .0 .1), ne-eqb _ 11 (c .match .rest .0 .1), ne-eqb _ 12 (c .match .rest .1))
+unfolding opcodeOf sameFields fieldsOf
+returns-13 c = simp (else-load-key (c .before .before .before .before .before .args .f) refl (c .match .rest .0 .0 .0 .0 .0 .0 .0 .0 .0 .0 .0 .1) (c .match .rest .0 .0 .0 .0 .0 .0 .0 .0 .0 .1) (c .match .rest .0 .0 .0 .0 .0 .0 .0 .0 .1) (c .match .rest .0 .0 .0 .0 .0 .0 .0 .1) (c .match .rest .0 .0 .0 .0 .0 .0 .1) (c .match .rest .0 .0 .0 .0 .0 .1) (c .match .rest .0 .0 .0 .0 .1) (c .match .rest .0 .0 .0 .1) (c .match .rest .0 .0 .1) (c .match .rest .0 .1) (c .match .rest .1), ok-picked, ne-eqb _ 2 (c .match .rest .0 .0 .0 .0 .0 .0 .0 .0 .0 .0 .1))
 
 pub opcode-ok-spec : {M : Type 1} → statement M
 opcode-ok-spec =
@@ -122,9 +127,10 @@ opcode-ok-spec =
     both-requires-5
     both-requires-6
     both-requires-7
-    is-map-requires
+    map-of-requires
     both-requires-8
     both-requires-9
+    both-requires-10
     returns
     returns-2
     returns-3

@@ -7,7 +7,7 @@ use lib.ListN.{length}
 use Rattle.wire.specs.Le.{store}
 use Rattle.ir.proofs.OperandLaws.{first-is}
 use Rattle.ir.specs.Operands.{listOf, firstOf, restOf}
-use Rattle.ir.specs.declared.operands.Head.the-variants.{Is}
+use Rattle.ir.specs.declared.operands.Front.the-variants.{Is}
 use Rattle.operand.specs.Operand.{operandsBytes}
 use Rattle.operand.proofs.OperandBytes.{operand-step, operand-end}
 use Rattle.operand.proofs.set_operands.Statement.{statement}

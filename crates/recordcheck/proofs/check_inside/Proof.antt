@@ -8,7 +8,7 @@ use lib.ListN.{length}
 use Prim.Native.Nat.{_+_, _≤_}
 use Rattle.record.specs.Frame.{kindAt, wholeAt, nextAt}
 use Rattle.record.specs.Payload.{payloadAt}
-use Rattle.record.specs.Record.{kindDue, readRecord}
+use Rattle.record.specs.Record.{kindDue, notDue, readRecord}
 use Rattle.record.proofs.Frames.{ends-inside}
 use Rattle.recordcheck.specs.Checked.{checkedOf}
 use Rattle.recordcheck.proofs.Checks.{good-instruction, broken-instruction, good-terminator, broken-terminator}
@@ -83,12 +83,9 @@ returns-4 : tie.Need-returns-4
 unfolding readRecord kindDue payloadAt nextAt
 returns-4 c = simp (is-whole (c .before .before .before .before .before), is-terminator (c .before .before), ← c .before .before .before .before .before .before .before .get-u16 .ensures) (sym (broken-terminator _ _ _ (sym (c .before .terminator-ok .ensures) ∙ c .if5 .left)))
 
-not-due-requires : tie.Need-not-due-requires
-not-due-requires c κs = search needs
-
 returns-5 : tie.Need-returns-5
-unfolding readRecord kindDue checkedOf
-returns-5 c = simp (is-whole (c .before .before .before .before), ← c .before .before .before .get-u162 .ensures, ne-eqb _ 4 (c .before .before .if2 .left), ne-eqb _ 5 (c .before .if4 .left), c .not-due .ensures)
+unfolding readRecord kindDue notDue checkedOf
+returns-5 c = simp (is-whole (c .before .before .before), ← c .before .before .get-u162 .ensures, ne-eqb _ 4 (c .before .if2 .left), ne-eqb _ 5 (c .if4 .left))
 
 returns-6 : tie.Need-returns-6
 unfolding readRecord wholeAt checkedOf
@@ -115,6 +112,5 @@ check-inside-spec =
     add-t19
     returns-3
     returns-4
-    not-due-requires
     returns-5
     returns-6)

@@ -7,7 +7,8 @@ use native.Mathlib.Omega.{arith}
 use lib.ListN.{length, getD}
 use borrow.Author.Count.{below-more}
 use Rattle.shape.specs.Code.{slots}
-use Rattle.screen.specs.Verdict.{Clear, unreadable}
+use Rattle.paths.specs.Way.{Clear}
+use Rattle.screen.specs.Verdict.{unreadable}
 use Rattle.screen.proofs.Pass.{clear, first, at-end}
 
 abbrev Inv-loop : tie.InvT-loop
@@ -28,7 +29,7 @@ lacking-at-requires c κs =
     let P = c .before .before .before .before .before .pre in
     let s = c .before .loop .s in
     let h : s < slots (c .before .before .before .before .before .args .code .now) = c .loop-test .taken in
-    (omega (arith, P .0 .room), P .1 .0 s h .small)
+    ((omega (arith, P .0 .room), omega (arith, P .0 .most)), P .1 .0 s h .small)
 
 lowest-requires : tie.Need-lowest-requires Inv-loop μ-loop
 lowest-requires c κs = search needs

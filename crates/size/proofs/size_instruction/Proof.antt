@@ -1,7 +1,7 @@
 -- `size_instruction` is `sizeIn`, by the code.
 use mathlib.Core.Path.{_∙_}
 use Rattle.opcode.specs.Opcode.{opcodeIn}
-use Rattle.record.specs.Instruction.{fieldsAt}
+use Rattle.record.specs.Instruction.{fieldsIn}
 use Rattle.lower.specs.Instruction.{opcode}
 use Rattle.lower.specs.Payload.{instructionIn}
 use Rattle.size.specs.Size.{sizeIn, sizeBy}
@@ -53,51 +53,51 @@ first-requires-3 : tie.Need-first-requires-3
 first-requires-3 c κs = search needs
 
 returns : tie.Need-returns
-unfolding sizeIn instructionIn opcodeIn fieldsAt sizeBy opcode
+unfolding sizeIn instructionIn opcodeIn fieldsIn sizeBy opcode
 returns c = rw (← c .before .before .get-u8 .ensures, c .before .match .keys1) (c .helper-call .ensures)
 
 returns-2 : tie.Need-returns-2
-unfolding sizeIn instructionIn opcodeIn fieldsAt sizeBy
+unfolding sizeIn instructionIn opcodeIn fieldsIn sizeBy
 returns-2 c = rw (← c .before .before .get-u8 .ensures, c .before .match .keys2) (c .first .ensures ∙ load-key (c .before .before .before .before .args .payload .now) (c .before .before .before .before .args .condition))
 
 returns-3 : tie.Need-returns-3
-unfolding sizeIn instructionIn opcodeIn fieldsAt sizeBy opcode
+unfolding sizeIn instructionIn opcodeIn fieldsIn sizeBy opcode
 returns-3 c = rw (← c .before .before .get-u8 .ensures, c .before .match .keys3) (c .store .ensures)
 
 returns-4 : tie.Need-returns-4
-unfolding sizeIn instructionIn opcodeIn fieldsAt sizeBy opcode
+unfolding sizeIn instructionIn opcodeIn fieldsIn sizeBy opcode
 returns-4 c = rw (← c .before .before .get-u8 .ensures, c .before .match .keys4) (c .from-context .ensures)
 
 returns-5 : tie.Need-returns-5
-unfolding sizeIn instructionIn opcodeIn fieldsAt sizeBy opcode
+unfolding sizeIn instructionIn opcodeIn fieldsIn sizeBy opcode
 returns-5 c = rw (← c .before .before .get-u8 .ensures, c .before .match .keys5) (c .from-context2 .ensures)
 
 returns-6 : tie.Need-returns-6
-unfolding sizeIn instructionIn opcodeIn fieldsAt sizeBy opcode
+unfolding sizeIn instructionIn opcodeIn fieldsIn sizeBy opcode
 returns-6 c = rw (← c .before .before .get-u8 .ensures, c .before .match .keys6) (c .copy-context .ensures)
 
 returns-7 : tie.Need-returns-7
-unfolding sizeIn instructionIn opcodeIn fieldsAt sizeBy
+unfolding sizeIn instructionIn opcodeIn fieldsIn sizeBy
 returns-7 c = rw (← c .before .before .get-u8 .ensures, c .before .match .keys7) (c .null-check .ensures)
 
 returns-8 : tie.Need-returns-8
-unfolding sizeIn instructionIn opcodeIn fieldsAt sizeBy opcode
+unfolding sizeIn instructionIn opcodeIn fieldsIn sizeBy opcode
 returns-8 c = rw (← c .before .before .get-u8 .ensures, c .before .match .keys8) (c .binary .ensures)
 
 returns-9 : tie.Need-returns-9
-unfolding sizeIn instructionIn opcodeIn fieldsAt sizeBy opcode
+unfolding sizeIn instructionIn opcodeIn fieldsIn sizeBy opcode
 returns-9 c = rw (← c .before .before .get-u8 .ensures, c .before .match .keys9) (c .call-map .ensures)
 
 returns-10 : tie.Need-returns-10
-unfolding sizeIn instructionIn opcodeIn fieldsAt sizeBy opcode
+unfolding sizeIn instructionIn opcodeIn fieldsIn sizeBy opcode
 returns-10 c = rw (← c .before .before .get-u8 .ensures, c .before .match .keys10) (c .update-map .ensures)
 
 returns-11 : tie.Need-returns-11
-unfolding sizeIn instructionIn opcodeIn fieldsAt sizeBy opcode
+unfolding sizeIn instructionIn opcodeIn fieldsIn sizeBy opcode
 returns-11 c = rw (← c .before .before .get-u8 .ensures, c .before .match .keys11) (c .reserve .ensures)
 
 returns-12 : tie.Need-returns-12
-unfolding sizeIn instructionIn opcodeIn fieldsAt sizeBy
+unfolding sizeIn instructionIn opcodeIn fieldsIn sizeBy
 returns-12 c = rw (← c .before .before .get-u8 .ensures, c .before .match .keys12) (c .first2 .ensures ∙ submit (c .before .before .before .before .args .payload .now) (c .before .before .before .before .args .condition) _)
 
 returns-13 : tie.Need-returns-13

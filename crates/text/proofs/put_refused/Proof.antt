@@ -7,6 +7,7 @@ use mathlib.Core.Path.{_≡_}
 use mir.Syntax.{w64}
 use mir.Val.{toZ, ofZ}
 use Rattle.wire.proofs.Sign.{back}
+use Rattle.text.specs.Ascii.{ascii}
 use Rattle.text.specs.Lines.{refusedLine}
 use Rattle.text.proofs.LineLengths.{refused-length}
 use Rattle.text.proofs.Wrote.{room, no-room, piece, _▸_, whole, none}
@@ -102,7 +103,7 @@ same-length : tie.Need-same-length
 same-length c = search needs
 
 returns : tie.Need-returns
-unfolding refusedLine
+unfolding refusedLine ascii
 returns c =
     let size-put = c .before .before .before .before .before .before .before in
     let sign-put = size-put .before .before .before .before in

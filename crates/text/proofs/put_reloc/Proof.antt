@@ -3,18 +3,19 @@ use borrow.Author.Needs.{needs}
 use Prim.Native.Nat.{_+_, _≤_}
 use native.Mathlib.Omega.{arith}
 use lib.ListN.{length}
+use Rattle.text.specs.Ascii.{ascii}
 use Rattle.text.specs.Lines.{relocLine}
 use Rattle.text.proofs.LineLengths.{reloc-length}
 use Rattle.text.proofs.Wrote.{room, no-room, piece, _▸_, whole, none}
 use Rattle.text.proofs.put_reloc.Statement.{statement}
 use Rattle.text.proofs.put_reloc.Tie as tie
 
-fits : (c : tie.Then2) → c .before .before .before .before .before .before .before .args .at + length (relocLine (c .before .before .before .before .before .before .before .args .offset) (c .before .before .before .before .before .before .before .args .name .now)) ≤ length (c .before .before .before .before .before .before .before .args .out .now)
+fits : (c : tie.Then2) → c .before .before .before .before .before .before .before .args .at + length (relocLine (c .before .before .before .before .before .before .before .args .offset .0) (c .before .before .before .before .before .before .before .args .name .now)) ≤ length (c .before .before .before .before .before .before .before .args .out .now)
 fits c =
     let n = c .before .before in
     let a = n .before .before .before .before .before .args in
     omega
-    (arith, room (a .at + length (a .name .now)) (8 + n .digits .result) (length (a .out .now)) (c .before .lies2 .ensures) (c .if2 .taken), reloc-length (a .offset) (a .name .now), n .digits .ensures .0)
+    (arith, room (a .at + length (a .name .now)) (8 + n .digits .result) (length (a .out .now)) (c .before .lies2 .ensures) (c .if2 .taken), reloc-length (a .offset .0) (a .name .now), n .digits .ensures .0)
 
 lies-requires : tie.Need-lies-requires
 lies-requires c κs = search needs
@@ -61,7 +62,7 @@ same-length : tie.Need-same-length
 same-length c = search needs
 
 returns : tie.Need-returns
-unfolding relocLine
+unfolding relocLine ascii
 returns c =
     let name = c .before .before .before .before .before .before .before in
     let blank = name .before .before .before .before in
@@ -81,13 +82,13 @@ returns-2 c =
     let n = c .before .before in
     let a = n .before .before .before .before .before .args in
     let out = no-room (a .at + length (a .name .now)) (8 + n .digits .result) (length (a .out .now)) (c .before .lies2 .ensures) (c .if2 .left) in
-    none (a .out .now) (a .at) (relocLine (a .offset) (a .name .now)) (omega (arith, reloc-length (a .offset) (a .name .now), n .digits .ensures .0))
+    none (a .out .now) (a .at) (relocLine (a .offset .0) (a .name .now)) (omega (arith, reloc-length (a .offset .0) (a .name .now), n .digits .ensures .0))
 
 returns-3 : tie.Need-returns-3
 returns-3 c =
     let a = c .before .before .before .before .args in
     let out = no-room (a .at) (length (a .name .now)) (length (a .out .now)) (c .before .lies .ensures) (c .if1 .left) in
-    none (a .out .now) (a .at) (relocLine (a .offset) (a .name .now)) (omega (arith, reloc-length (a .offset) (a .name .now)))
+    none (a .out .now) (a .at) (relocLine (a .offset .0) (a .name .now)) (omega (arith, reloc-length (a .offset .0) (a .name .now)))
 
 pub put-reloc-spec : {M : Type 1} → statement M
 put-reloc-spec =

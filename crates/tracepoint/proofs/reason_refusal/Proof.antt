@@ -3,7 +3,7 @@ use mathlib.Core.Path.{_∙_}
 use native.Mathlib.Omega.{arith}
 use mir.Syntax.{w32, w64}
 use Rattle.wire.proofs.Sign.{back}
-use Rattle.lower.proofs.Range.{cast-fits, cast-is}
+use Rattle.wire.proofs.InRange.{cast-fits, cast-is}
 use Rattle.tracepoint.specs.Compile.{reasonRefusal}
 use borrow.Author.Needs.{needs}
 use Rattle.tracepoint.proofs.reason_refusal.Statement.{statement}

@@ -1,8 +1,9 @@
 -- `map_name` hands back the part of the unit that the map's place says.
-use mathlib.Core.Path.{sym, _∙_, ap}
+use mathlib.Core.Path.{refl, sym, _∙_}
 use native.Mathlib.Omega.{arith}
 use native.Mathlib.Nat.{add-sub-cancel-left}
-use Rattle.unitfile.proofs.NamePlace.{lying, namedAt, named-at, nothing-named, refused-named}
+use Rattle.unitfile.specs.MapName.{partAt, namePart}
+use Rattle.unitfile.proofs.NamePlace.{lying}
 use borrow.Author.Needs.{needs}
 use Rattle.unitfile.proofs.map_name.Statement.{statement}
 use Rattle.unitfile.proofs.map_name.Tie as tie
@@ -50,13 +51,16 @@ part-result-end-3 : tie.Need-part-result-end-3
 part-result-end-3 c = search needs
 
 returns : tie.Need-returns
-returns c = simp add-sub-cancel-left (sym (lying _ _ _ _ (sym (c .before .before .before .before .map-place .ensures) ∙ c .before .before .start .given .1) .name-is))
+unfolding namePart partAt
+returns c = rw (sym (c .before .before .before .before .map-place .ensures) ∙ c .before .before .start .given .1, add-sub-cancel-left) refl
 
 returns-2 : tie.Need-returns-2
-returns-2 c = sym (nothing-named _ _ (named-at _ _ _ ∙ ap namedAt (sym (c .before .before .before .map-place .ensures) ∙ c .before .enum-told .given .1)))
+unfolding namePart partAt
+returns-2 c = rw (sym (c .before .before .before .map-place .ensures) ∙ c .before .enum-told .given .1) refl
 
 returns-3 : tie.Need-returns-3
-returns-3 c = sym (refused-named _ _ _ (named-at _ _ _ ∙ ap namedAt (sym (c .before .before .before .map-place .ensures) ∙ c .before .enum-told2 .given .1)))
+unfolding namePart partAt
+returns-3 c = rw (sym (c .before .before .before .map-place .ensures) ∙ c .before .enum-told2 .given .1) refl
 
 pub map-name-spec : {M : Type 1} → statement M
 map-name-spec =

@@ -6,10 +6,10 @@ use Rattle.unitlist.proofs.slots.Statement.{statement}
 use Rattle.unitlist.proofs.slots.Tie as tie
 
 abbrev Inv-loop : tie.InvT-loop
-Inv-loop code count i₀ i = i ≤ count
+Inv-loop code count i₀ i = i ≤ count .0
 
 abbrev μ-loop : tie.MeasureT-loop
-μ-loop code count i₀ i = count - i
+μ-loop code count i₀ i = count .0 - i
 
 loop-holds : tie.Need-loop-holds Inv-loop μ-loop
 loop-holds c = omega arith

@@ -2,7 +2,7 @@
 use borrow.Author.Needs.{needs}
 use Rattle.worklist.proofs.one.Statement.{statement}
 use Rattle.worklist.proofs.one.Tie as tie
-use Rattle.worklist.proofs.LowestBit.{shl-one}
+use Rattle.wire.proofs.Bits.{shl-one}
 
 shl-result : tie.Need-shl-result
 shl-result c = search needs

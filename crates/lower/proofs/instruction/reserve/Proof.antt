@@ -3,9 +3,10 @@ use mathlib.Core.Path.{ap, _∙_}
 use native.Mathlib.Omega.{arith}
 use mir.Syntax.{w64}
 use mir.ValLaws.{toZ-pos}
+use Rattle.wire.specs.Range.{fits32}
 use Rattle.insn.specs.Form.{opcodeOf}
 use Rattle.lower.specs.Op.{insn}
-use Rattle.lower.specs.Operand.{fits32, constant, call, mapAddress}
+use Rattle.lower.specs.Operand.{constant, call, mapAddress}
 use Rattle.lower.specs.Instruction.{opcode}
 use Rattle.lower.specs.Step.{one, mapOps}
 use Rattle.lower.proofs.Compose.{map-four}

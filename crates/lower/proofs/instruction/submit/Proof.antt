@@ -1,7 +1,8 @@
 -- RingBufSubmit.
+use Rattle.wire.specs.Range.{fits32}
 use Rattle.insn.specs.Form.{opcodeOf}
 use Rattle.lower.specs.Op.{insn}
-use Rattle.lower.specs.Operand.{fits32, constant, call}
+use Rattle.lower.specs.Operand.{constant, call}
 use Rattle.lower.specs.Instruction.{opcode}
 use Rattle.lower.specs.Step.{one, mapOps}
 use Rattle.lower.proofs.Counts.{first-is, no-first}

@@ -2,7 +2,6 @@
 use native.Mathlib.Omega.{arith}
 use Rattle.insn.specs.Rfc.{sizeField}
 use Rattle.insn.specs.Form.{opcodeOf}
-use Rattle.lower.specs.Put.{wideInsn}
 use Rattle.lower.proofs.Steps.{put-no-map, put-a-map}
 use borrow.Author.Needs.{needs}
 use Rattle.lower.proofs.list.put_map.Statement.{statement}
@@ -30,7 +29,7 @@ same-length : tie.Need-same-length
 same-length c = search needs
 
 returns-2 : tie.Need-returns-2
-unfolding wideInsn opcodeOf sizeField
+unfolding opcodeOf sizeField
 returns-2 c =
     let s = c .before .before .before .before .before .before .before .before .before .before .before .before in
     (put-a-map (s .args .code .now) (s .args .at) (c .before .before .before .before .before .before .before .before .before .enum-told2 .given .1) (c .before .before .before .before .before .before .before .before .word .ensures) (c .before .before .before .before .before .before .put-slot .ensures) (c .before .before .put-slot2 .ensures), omega arith)

@@ -12,8 +12,8 @@ returns c =
     let s = c .before .before in
     not-stored (s .args .code .now) _ (insnOf (s .args .word)) (omega arith)
 
-mul-put-u64 : tie.Need-mul-put-u64
-mul-put-u64 c = search needs
+byte-offset-requires : tie.Need-byte-offset-requires
+byte-offset-requires c κs = search needs
 
 add-put-u64 : tie.Need-add-put-u64
 add-put-u64 c = search needs
@@ -26,8 +26,8 @@ same-length c = search needs
 
 returns-2 : tie.Need-returns-2
 returns-2 c =
-    let s = c .before .before .before .before .before .before in
-    rw (bytes-insn (s .args .word)) (c .before .before .put-u64 .ensures)
+    let s = c .before .before .before .before .before .before .before in
+    rw (← c .before .before .before .byte-offset .ensures, bytes-insn (s .args .word)) (c .before .before .put-u64 .ensures)
 
 pub put-slot-spec : {M : Type 1} → statement M
-put-slot-spec = tie.close (tie.spec returns mul-put-u64 add-put-u64 put-u64-requires same-length returns-2)
+put-slot-spec = tie.close (tie.spec returns byte-offset-requires add-put-u64 put-u64-requires same-length returns-2)

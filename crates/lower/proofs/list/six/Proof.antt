@@ -1,5 +1,7 @@
 -- `six` puts six pieces, or none.
+use mathlib.Core.Path.{_∙_}
 use mathlib.Core.List.{[], _∷_}
+use native.Mathlib.Omega.{arith}
 use Rattle.lower.proofs.Steps.{run, outcomes, runOps, later, put-all, put-none, _▻_}
 use borrow.Author.Needs.{needs}
 use Rattle.lower.proofs.list.six.Statement.{statement}
@@ -51,7 +53,8 @@ put-requires-5 : tie.Need-put-requires-5
 put-requires-5 c κs = search needs
 
 put-requires-6 : tie.Need-put-requires-6
-put-requires-6 c κs = search needs
+put-requires-6 c κs =
+    omega (arith, c .before .before .before .put5 .ensures .most, c .before .before .before .before .before .before .before .put4 .ensures .most, c .before .before .before .before .before .before .before .before .before .before .before .put3 .ensures .most, c .before .before .before .before .before .before .before .before .before .before .before .before .before .before .before .put2 .ensures .most, c .before .before .before .before .before .before .before .before .before .before .before .before .before .before .before .before .before .before .before .put .ensures .most, c .before .before .before .before .before .before .before .before .before .before .before .before .before .before .before .before .before .before .before .before .before .before .before .put-map .ensures .1)
 
 returns : tie.Need-returns
 unfolding run outcomes
@@ -60,7 +63,8 @@ returns c =
     put-none (s .map) (s .a ∷ s .b ∷ s .c ∷ s .d ∷ s .e ∷ s .f ∷ []) (later (s .f) (c .before .before .before .before .first6 .ensures) (later (s .e) (c .before .before .before .before .before .first5 .ensures) (later (s .d) (c .before .before .before .before .before .before .first4 .ensures) (later (s .c) (c .before .before .before .before .before .before .before .first3 .ensures) (later (s .b) (c .before .before .before .before .before .before .before .before .first2 .ensures) (c .before .before .before .before .before .before .before .before .before .first .ensures)))))) (c .before .before .o .given .1) (c .refused .ensures)
 
 same-length : tie.Need-same-length
-same-length c = search needs
+same-length c =
+    c .before .code7 .given ∙ c .before .before .before .before .before .code6 .given ∙ c .before .before .before .before .before .before .before .before .before .code5 .given ∙ c .before .before .before .before .before .before .before .before .before .before .before .before .before .code4 .given ∙ c .before .before .before .before .before .before .before .before .before .before .before .before .before .before .before .before .before .code3 .given ∙ c .before .before .before .before .before .before .before .before .before .before .before .before .before .before .before .before .before .before .before .before .before .code2 .given ∙ c .before .before .before .before .before .before .before .before .before .before .before .before .before .before .before .before .before .before .before .before .before .before .before .before .before .code .given
 
 returns-2 : tie.Need-returns-2
 unfolding run outcomes runOps

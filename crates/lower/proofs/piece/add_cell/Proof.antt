@@ -5,7 +5,7 @@ use Rattle.insn.specs.Rfc.{operationOf}
 use Rattle.insn.specs.Form.{opcodeOf}
 use Rattle.lower.specs.Op.{insn}
 use Rattle.lower.specs.Operand.{add}
-use Rattle.lower.proofs.Range.{cast-fits, cast-is}
+use Rattle.wire.proofs.InRange.{cast-fits, cast-is}
 use borrow.Author.Needs.{needs}
 use Rattle.lower.proofs.piece.add_cell.Statement.{statement}
 use Rattle.lower.proofs.piece.add_cell.Tie as tie

@@ -1,7 +1,8 @@
 -- `call_update` is a MOV64 of 0 and a call.
+use Rattle.wire.specs.Range.{fits32}
 use Rattle.insn.specs.Form.{opcodeOf}
 use Rattle.lower.specs.Op.{insn, _▸_}
-use Rattle.lower.specs.Operand.{constant, fits32, call}
+use Rattle.lower.specs.Operand.{constant, call}
 use Rattle.lower.specs.Step.{pieceOf, outcomeOf, opsOf, all}
 use borrow.Author.Needs.{needs}
 use Rattle.lower.proofs.piece.call_update.Statement.{statement}

@@ -1,7 +1,8 @@
 -- The rest of NullCheck.
+use Rattle.wire.specs.Range.{fits32}
 use Rattle.insn.specs.Form.{opcodeOf}
 use Rattle.lower.specs.Op.{insn}
-use Rattle.lower.specs.Operand.{constant, fits32}
+use Rattle.lower.specs.Operand.{constant}
 use Rattle.lower.specs.Step.{pieceOf, outcomeOf, opsOf, all, nullRest}
 use borrow.Author.Needs.{needs}
 use Rattle.lower.proofs.piece.null_rest.Statement.{statement}

@@ -1,7 +1,8 @@
 -- The test of NullCheck.
+use Rattle.wire.specs.Range.{fits32}
 use Rattle.insn.specs.Form.{opcodeOf}
 use Rattle.lower.specs.Op.{insn, _▸_}
-use Rattle.lower.specs.Operand.{constant, fits32}
+use Rattle.lower.specs.Operand.{constant}
 use Rattle.lower.specs.Step.{pieceOf, outcomeOf, opsOf, all, nullTest}
 use borrow.Author.Needs.{needs}
 use Rattle.lower.proofs.piece.null_test.Statement.{statement}

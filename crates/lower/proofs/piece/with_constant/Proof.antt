@@ -1,39 +1,36 @@
 -- `with_constant` checks the constant.
-use native.Mathlib.Omega.{arith}
-use borrow.Author.Tests.{lt-ltb}
-use lib.Signed.{mag}
+use mathlib.Core.Path.{sym, ap, _∙_}
 use mir.Syntax.{w32, w64}
 use mir.ValLaws.{toZ-ofZ}
-use Rattle.lower.specs.Operand.{fits32}
+use Rattle.wire.specs.Range.{fits32}
+use Rattle.wire.proofs.InRange.{in32, cast-fits, cast-is}
 use Rattle.lower.specs.Step.{stepOf, one, withConstant}
-use Rattle.lower.proofs.Range.{below, above, inside, cast-fits, cast-is}
+use borrow.Author.Needs.{needs}
 use Rattle.lower.proofs.piece.with_constant.Statement.{statement}
 use Rattle.lower.proofs.piece.with_constant.Tie as tie
 
+fits32-requires : tie.Need-fits32-requires
+fits32-requires c κs = search needs
+
+cast-t5 : tie.Need-cast-t5
+cast-t5 c =
+    let s = c .before .before in
+    let e = ap fits32 (sym (toZ-ofZ w64 (s .args .z) (s .fits .z))) ∙ sym (c .before .fits32 .ensures) ∙ c .if1 .taken in
+    cast-fits w64 w32 (s .args .z) (s .fits .z) (in32 (s .args .z) e)
+
 returns : tie.Need-returns
-unfolding stepOf withConstant fits32
+unfolding stepOf withConstant one
 returns c =
-    let s = c .before in
-    rw (below w64 (s .args .z) 2147483647 (s .fits .z) (c .if1 .taken), toZ-ofZ w64 (s .args .z) (s .fits .z))
+    let s = c .before .before in
+    let e = ap fits32 (sym (toZ-ofZ w64 (s .args .z) (s .fits .z))) ∙ sym (c .before .fits32 .ensures) ∙ c .if1 .taken in
+    rw (cast-is w64 w32 (s .args .z) (s .fits .z) (in32 (s .args .z) e), e)
 
 returns-2 : tie.Need-returns-2
-unfolding stepOf withConstant fits32
+unfolding stepOf withConstant
 returns-2 c =
     let s = c .before .before in
-    rw (above w64 (s .args .z) 2147483647 (s .fits .z) (c .if2 .taken), toZ-ofZ w64 (s .args .z) (s .fits .z))
-
-cast-t7 : tie.Need-cast-t7
-cast-t7 c =
-    let s = c .before .before in
-    let h = inside w64 (s .args .z) 2147483647 (s .fits .z) (c .before .if1 .left) (c .if2 .left) in
-    cast-fits w64 w32 (s .args .z) (s .fits .z) (record { sfits = omega arith })
-
-returns-3 : tie.Need-returns-3
-unfolding stepOf withConstant fits32 one
-returns-3 c =
-    let s = c .before .before in
-    let h = inside w64 (s .args .z) 2147483647 (s .fits .z) (c .before .if1 .left) (c .if2 .left) in
-    rw (cast-is w64 w32 (s .args .z) (s .fits .z) (record { sfits = omega arith }), lt-ltb (mag (s .args .z)) 2147483648 (omega arith))
+    let e = toZ-ofZ w64 (s .args .z) (s .fits .z) in
+    rw (e, ap fits32 (sym e) ∙ sym (c .before .fits32 .ensures) ∙ c .if1 .left)
 
 pub with-constant-spec : {M : Type 1} → statement M
-with-constant-spec = tie.close (tie.spec returns returns-2 cast-t7 returns-3)
+with-constant-spec = tie.close (tie.spec fits32-requires cast-t5 returns returns-2)

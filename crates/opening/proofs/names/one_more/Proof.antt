@@ -4,7 +4,7 @@ use native.Mathlib.Omega.{arith}
 use native.Mathlib.Nat.{add-sub-cancel-left}
 use borrow.Author.Needs.{needs}
 use lib.ListN.{set}
-use Rattle.opening.specs.Inner.{oneMore, signedWith}
+use Rattle.opening.specs.Inner.{oneMore, signedWith, refusedMaps}
 use Rattle.opening.proofs.MapLaws.{lies-at}
 use Rattle.opening.proofs.SignedNames.{by-signature}
 use Rattle.opening.proofs.names.one_more.Statement.{statement}
@@ -13,11 +13,21 @@ use Rattle.opening.proofs.names.one_more.Tie as tie
 map-at-requires : tie.Need-map-at-requires
 map-at-requires c κs = search needs
 
-enum-known-start : tie.Need-enum-known-start
-enum-known-start c = search needs
+enum-known-map : tie.Need-enum-known-map
+enum-known-map c = search needs
+
+enum-told : tie.Need-enum-told
+enum-told c = search needs
+
+maps-requires : tie.Need-maps-requires
+maps-requires c κs = search needs
+
+returns : tie.Need-returns
+unfolding oneMore signedWith refusedMaps
+returns c = rw (c .maps .ensures, ← c .before .before .before .map-at .ensures .0, c .before .enum-told .given .1) (refl, refl)
 
 add-end : tie.Need-add-end
-add-end c = let h = lies-at _ _ _ _ _ (c .before .start .given .1) (c .before .before .before .map-at .ensures .1) in omega arith
+add-end c = let h = lies-at _ _ _ _ _ (c .before .map .given .1) (c .before .before .before .map-at .ensures .1) in omega arith
 
 sub-name : tie.Need-sub-name
 sub-name c = search needs
@@ -26,7 +36,7 @@ part-name-start : tie.Need-part-name-start
 part-name-start c = search needs
 
 part-name-end : tie.Need-part-name-end
-part-name-end c = let h = lies-at _ _ _ _ _ (c .before .start .given .1) (c .before .before .before .map-at .ensures .1) in omega arith
+part-name-end c = let h = lies-at _ _ _ _ _ (c .before .map .given .1) (c .before .before .before .map-at .ensures .1) in omega arith
 
 signature-requires : tie.Need-signature-requires
 signature-requires c κs = search needs
@@ -40,37 +50,33 @@ mul-table c = search needs
 element-write-table : tie.Need-element-write-table
 element-write-table c = search needs
 
-returns : tie.Need-returns
-unfolding oneMore signedWith
-returns c =
-    let s = c .before .before .before .before .before .before .before .before .before .before in
-    let m = sym (c .before .before .before .before .before .before .before .before .map-at .ensures .0) ∙ c .before .before .before .before .before .before .start .given .1 in
-    let is = c .before .before .before .signature .ensures in
-    let t = simp add-sub-cancel-left at (by-signature (s .pre .1) _ _ _ _ is (c .before .repeated .ensures) (c .if1 .taken)) in
-    rw m (rw t refl, ap (set (s .args .table .now) (s .args .k)) (simp add-sub-cancel-left at is))
-
-enum-known-f : tie.Need-enum-known-f
-enum-known-f c = search needs
-
 returns-2 : tie.Need-returns-2
 unfolding oneMore signedWith
 returns-2 c =
     let s = c .before .before .before .before .before .before .before .before .before .before in
-    let m = sym (c .before .before .before .before .before .before .before .before .map-at .ensures .0) ∙ c .before .before .before .before .before .before .start .given .1 in
+    let m = sym (c .before .before .before .before .before .before .before .before .map-at .ensures .0) ∙ c .before .before .before .before .before .before .map .given .1 in
     let is = c .before .before .before .signature .ensures in
-    let t = simp add-sub-cancel-left at (by-signature (s .pre .1) _ _ _ _ is (c .before .repeated .ensures) (c .if1 .left)) in
+    let t = simp add-sub-cancel-left at (by-signature (s .pre .1) _ _ _ _ is (c .before .repeated .ensures) (c .if1 .taken)) in
     rw m (rw t refl, ap (set (s .args .table .now) (s .args .k)) (simp add-sub-cancel-left at is))
 
 returns-3 : tie.Need-returns-3
 unfolding oneMore signedWith
-returns-3 c = rw (← c .before .before .before .map-at .ensures .0, c .before .f .given .1) (refl, refl)
+returns-3 c =
+    let s = c .before .before .before .before .before .before .before .before .before .before in
+    let m = sym (c .before .before .before .before .before .before .before .before .map-at .ensures .0) ∙ c .before .before .before .before .before .before .map .given .1 in
+    let is = c .before .before .before .signature .ensures in
+    let t = simp add-sub-cancel-left at (by-signature (s .pre .1) _ _ _ _ is (c .before .repeated .ensures) (c .if1 .left)) in
+    rw m (rw t refl, ap (set (s .args .table .now) (s .args .k)) (simp add-sub-cancel-left at is))
 
 pub one-more-spec : {M : Type 1} → statement M
 one-more-spec =
     tie.close
     (tie.spec
     map-at-requires
-    enum-known-start
+    enum-known-map
+    enum-told
+    maps-requires
+    returns
     add-end
     sub-name
     part-name-start
@@ -79,7 +85,5 @@ one-more-spec =
     repeated-requires
     mul-table
     element-write-table
-    returns
-    enum-known-f
     returns-2
     returns-3)

@@ -22,8 +22,15 @@ loop-holds c = (omega arith, (refl, signed-none _ _ _))
 one-more-requires : tie.Need-one-more-requires Inv-loop μ-loop
 one-more-requires c κs = search needs
 
-enum-known-next : tie.Need-enum-known-next Inv-loop μ-loop
-enum-known-next c = search needs
+enum-known-more : tie.Need-enum-known-more Inv-loop μ-loop
+enum-known-more c = search needs
+
+enum-told : tie.Need-enum-told Inv-loop μ-loop
+enum-told c = search needs
+
+returns : tie.Need-returns Inv-loop μ-loop
+unfolding mapsOf
+returns c = rw (reached-refused _ _ _ _ (reached (c .before .before .before .before .before .loop .inv .1 .1)) _ _ (c .before .before .before .before .loop-test .taken) (sym (c .before .before .one-more .ensures .0) ∙ c .enum-told .given .1)) (c .enum-told .given .1)
 
 add-k : tie.Need-add-k Inv-loop μ-loop
 add-k c = search needs
@@ -35,14 +42,7 @@ loop-again : tie.Need-loop-again Inv-loop μ-loop
 loop-again c =
     let k = c .before .before .before .before .before .before .loop .inv in
     let e = c .before .before .before .one-more .ensures in
-    (omega arith, (signed-length _ _ _ _ _ (e .1) (k .1 .0), signed-more _ _ _ _ _ (e .1) _ (k .1 .1) (omega arith) _ _ (e .0) (c .before .next .given .1)))
-
-enum-known-f : tie.Need-enum-known-f Inv-loop μ-loop
-enum-known-f c = search needs
-
-returns : tie.Need-returns Inv-loop μ-loop
-unfolding mapsOf
-returns c = rw (reached-refused _ _ _ _ (reached (c .before .before .before .before .before .before .loop .inv .1 .1)) _ _ (c .before .before .before .before .before .loop-test .taken) (sym (c .before .before .before .one-more .ensures .0) ∙ c .before .f .given .1)) refl
+    (omega arith, (signed-length _ _ _ _ _ (e .1) (k .1 .0), signed-more _ _ _ _ _ (e .1) _ (k .1 .1) (omega arith) _ _ (e .0) (c .before .more .given .1)))
 
 returns-2 : tie.Need-returns-2 Inv-loop μ-loop
 unfolding mapsOf
@@ -56,10 +56,10 @@ read-maps-spec =
     μ-loop
     loop-holds
     one-more-requires
-    enum-known-next
+    enum-known-more
+    enum-told
+    returns
     add-k
     loop-less
     loop-again
-    enum-known-f
-    returns
     returns-2)

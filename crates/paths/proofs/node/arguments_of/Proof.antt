@@ -1,83 +1,78 @@
--- `arguments_of` is the mask of the registers that a helper reads.
+-- `arguments_of` is the mask of the registers that a helper reads: R1 and on, at most four.
+use mathlib.Core.Path.{_≡_, refl, sym, ap, _∙_}
+use Prim.Native.Nat.{ℕ, zero, suc, _*_, _-_, _%_, _^_, _≤_}
+use native.Mathlib.Omega.{arith}
+use mir.Syntax.{w32}
+use mir.ValLaws.{toZ-ofZ}
+use borrow.Author.Needs.{needs}
+use Rattle.insn.specs.Helper.{helperOf, arguments}
+use Rattle.insn.specs.declared.helper.Helper.the-variants.{Takes}
+use Rattle.insn.proofs.Helpers.{at-most-four}
+use Rattle.paths.specs.Registers.{argument}
+use Rattle.paths.specs.Mask.{mask}
 use Rattle.paths.proofs.node.arguments_of.Statement.{statement}
 use Rattle.paths.proofs.node.arguments_of.Tie as tie
-use mathlib.Core.Path.{_≡_, ap, _∙_}
-use native.Mathlib.Omega.{arith}
-use lib.IntN.{natAbs, pos}
-use mir.Syntax.{w32}
-use Rattle.paths.specs.Registers.{arguments, argument}
-use Rattle.paths.specs.Mask.{mask}
-use Rattle.paths.proofs.Signed.{itself, flipped, Forward, forward, back, reads-none, reads-other}
 
-ahead : (c : tie.Else1) → Forward w32 (c .before .args .imm)
-ahead c = forward w32 (c .before .args .imm) (c .before .fits .imm) (c .if1 .left)
+-- R1 to R(n) as the code makes them
+record Shifted (n : ℕ) : Type 0 where
+  enough : 2 ≤ 2 * 2 ^ n % 65536
+  is : 2 * 2 ^ n % 65536 - 2 ≡ mask (argument n) 11
+
+shifted : (n : ℕ) → n ≤ 4 → Shifted n
+unfolding mask argument
+shifted zero h = record { enough = omega arith; is = refl }
+shifted (suc zero) h = record { enough = omega arith; is = refl }
+shifted (suc (suc zero)) h = record { enough = omega arith; is = refl }
+shifted (suc (suc (suc zero))) h = record { enough = omega arith; is = refl }
+shifted (suc (suc (suc (suc zero)))) h = record { enough = omega arith; is = refl }
+shifted (suc (suc (suc (suc (suc n))))) h = absurd (omega arith)
+
+takes : (c : tie.After-n) → helperOf (c .before .before .before .args .imm) ≡ Takes (c .n .given .0 .0)
+takes c =
+    let s = c .before .before .before in
+    sym (ap helperOf (toZ-ofZ w32 (s .args .imm) (s .fits .imm))) ∙ sym (c .before .before .helper-of .ensures) ∙ c .n .given .1
+
+few : (c : tie.After-n) → c .n .given .0 .0 ≤ 4
+unfolding arguments
+few c = rw (takes c) at (at-most-four (c .before .before .before .args .imm))
+
+helper-of-requires : tie.Need-helper-of-requires
+helper-of-requires c κs = search needs
+
+enum-told : tie.Need-enum-told
+enum-told c = search needs
+
+enum-known-n : tie.Need-enum-known-n
+enum-known-n c = search needs
+
+cast-result : tie.Need-cast-result
+cast-result c = search needs
+
+shl-result : tie.Need-shl-result
+shl-result c = omega (arith, few (c .before))
+
+sub-result : tie.Need-sub-result
+sub-result c = shifted _ (few (c .before)) .enough
 
 returns : tie.Need-returns
-returns c = let z = c .before .args .imm in reads-none z (natAbs (flipped w32 z)) (back w32 z (c .before .fits .imm) (c .if1 .taken) .is)
-
-cast-match : tie.Need-cast-match
-cast-match c = (ahead c .sign, record { fits = omega (arith, ahead c .small) })
+unfolding arguments argument mask
+returns c =
+    let s = c .before .before .before in
+    rw (← (toZ-ofZ w32 (s .args .imm) (s .fits .imm)), ← (c .before .before .helper-of .ensures), c .enum-told .given .1)
 
 returns-2 : tie.Need-returns-2
-unfolding mask argument arguments
-returns-2 c =
-    let e : c .before .before .args .imm ≡ pos 1 = ahead (c .before) .is ∙ ap pos (omega arith) in
-    rw e
-
-returns-3 : tie.Need-returns-3
-unfolding mask argument arguments
-returns-3 c =
-    let e : c .before .before .args .imm ≡ pos 132 = ahead (c .before) .is ∙ ap pos (omega arith) in
-    rw e
-
-returns-4 : tie.Need-returns-4
-unfolding mask argument arguments
-returns-4 c =
-    let e : c .before .before .args .imm ≡ pos 2 = ahead (c .before) .is ∙ ap pos (omega arith) in
-    rw e
-
-returns-5 : tie.Need-returns-5
-unfolding mask argument arguments
-returns-5 c =
-    let e : c .before .before .args .imm ≡ pos 113 = ahead (c .before) .is ∙ ap pos (omega arith) in
-    rw e
-
-returns-6 : tie.Need-returns-6
-unfolding mask argument arguments
-returns-6 c =
-    let e : c .before .before .args .imm ≡ pos 114 = ahead (c .before) .is ∙ ap pos (omega arith) in
-    rw e
-
-returns-7 : tie.Need-returns-7
-unfolding mask argument arguments
-returns-7 c =
-    let e : c .before .before .args .imm ≡ pos 115 = ahead (c .before) .is ∙ ap pos (omega arith) in
-    rw e
-
-returns-8 : tie.Need-returns-8
-unfolding mask argument arguments
-returns-8 c =
-    let e : c .before .before .args .imm ≡ pos 131 = ahead (c .before) .is ∙ ap pos (omega arith) in
-    rw e
-
-returns-9 : tie.Need-returns-9
-returns-9 c =
-    let z = c .before .before .args .imm in
-    let f = ahead (c .before) in
-    let r = c .match .rest in
-    reads-other z (natAbs (itself w32 z)) (f .is) (r .0 .0 .0 .0 .0 .0 .1) (r .0 .0 .0 .0 .0 .1) (r .0 .0 .0 .0 .1) (r .0 .0 .0 .1) (r .0 .0 .1) (r .0 .1) (r .1)
+unfolding arguments
+returns-2 c = rw (takes (c .before)) (shifted _ (few (c .before)) .is)
 
 pub arguments-of-spec : {M : Type 1} → statement M
 arguments-of-spec =
     tie.close
     (tie.spec
+    helper-of-requires
+    enum-told
+    enum-known-n
+    cast-result
+    shl-result
+    sub-result
     returns
-    cast-match
-    returns-2
-    returns-3
-    returns-4
-    returns-5
-    returns-6
-    returns-7
-    returns-8
-    returns-9)
+    returns-2)

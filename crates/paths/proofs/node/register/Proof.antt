@@ -4,7 +4,7 @@ use Rattle.paths.proofs.node.register.Statement.{statement}
 use Rattle.paths.proofs.node.register.Tie as tie
 use mathlib.Core.Path.{_∙_}
 use native.Mathlib.Omega.{arith}
-use Rattle.worklist.proofs.LowestBit.{shl-one}
+use Rattle.wire.proofs.Bits.{shl-one}
 use Rattle.paths.proofs.Masks.{only-here, only-far}
 
 shl-result : tie.Need-shl-result

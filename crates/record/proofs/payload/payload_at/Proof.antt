@@ -1,27 +1,21 @@
 -- `payload_at` reads the payload of each kind by its rules.
-use mathlib.Core.Path.{_≡_, sym, _∙_}
+use mathlib.Core.Path.{_≡_}
 use native.Mathlib.Omega.{arith}
 use borrow.Author.Tests.{le-leb, lt-leb, eq-eqb, ne-eqb}
 use borrow.Author.Needs.{needs}
-use Rattle.record.specs.Payload.{headAt, payloadAt, ofInstruction, ofTerminator}
-use Rattle.record.proofs.Heads.{head-there}
+use Rattle.record.specs.Payload.{payloadAt, ofInstruction, ofTerminator}
 use Rattle.record.proofs.payload.payload_at.Statement.{statement}
 use Rattle.record.proofs.payload.payload_at.Tie as tie
 
-head-found : (c : tie.After-head-at) → headAt (c .before .before .before .before .args .s .now) (c .before .before .before .before .args .at) ≡ c .head-at .result
-head-found c =
-    let a = c .before .before .before .before in
-    sym (c .head-at .ensures ∙ head-there (a .args .s .now) (a .args .at) (omega (arith, a .pre)))
-
-head-at-requires : tie.Need-head-at-requires
-head-at-requires c κs = search needs
+head-in-requires : tie.Need-head-in-requires
+head-in-requires c κs = search needs
 
 head-ok-requires : tie.Need-head-ok-requires
 head-ok-requires c κs = search needs
 
 returns : tie.Need-returns
 unfolding payloadAt
-returns c = simp (c .before .before .before .before .match .keys1, eq-eqb _ 8 (c .before .before .before .if1 .taken), head-found (c .before .before), ← c .before .head-ok .ensures, c .if2 .taken)
+returns c = simp (c .before .before .before .before .match .keys1, eq-eqb _ 8 (c .before .before .before .if1 .taken), ← c .before .before .head-in .ensures, ← c .before .head-ok .ensures, c .if2 .taken)
 
 returns-2 : tie.Need-returns-2
 unfolding payloadAt
@@ -62,7 +56,7 @@ returns-5 c = simp (c .before .before .before .match .keys5, ← c .before .befo
 
 returns-6 : tie.Need-returns-6
 unfolding payloadAt
-returns-6 c = simp (c .before .before .before .before .match .keys1, eq-eqb _ 8 (c .before .before .before .if1 .taken), head-found (c .before .before), ← c .before .head-ok .ensures, c .if2 .left)
+returns-6 c = simp (c .before .before .before .before .match .keys1, eq-eqb _ 8 (c .before .before .before .if1 .taken), ← c .before .before .head-in .ensures, ← c .before .head-ok .ensures, c .if2 .left)
 
 returns-7 : tie.Need-returns-7
 unfolding payloadAt
@@ -92,7 +86,7 @@ pub payload-at-spec : {M : Type 1} → statement M
 payload-at-spec =
     tie.close
     (tie.spec
-    head-at-requires
+    head-in-requires
     head-ok-requires
     returns
     returns-2

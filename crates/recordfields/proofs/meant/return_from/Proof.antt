@@ -13,11 +13,11 @@ enum-told c = search needs
 
 returns : tie.Need-returns
 unfolding returning ofTerminator
-returns c = rw (c .before .o .given .1)
+returns c = rw (c .enum-told .given .1)
 
 returns-2 : tie.Need-returns-2
 unfolding returning ofTerminator
-returns-2 c = rw (c .enum-told .given .1)
+returns-2 c = rw (c .before .o .given .1)
 
 pub return-from-spec : {M : Type 1} → statement M
 return-from-spec = tie.close (tie.spec enum-known-o enum-told returns returns-2)

@@ -6,7 +6,7 @@ use borrow.Author.Needs.{needs}
 use lib.ListN.{length, length-set}
 use lib.Seq.{sets}
 use Rattle.ir.specs.Operands.{listOf, firstOf, restOf}
-use Rattle.ir.specs.declared.operands.Head.the-variants.{Is}
+use Rattle.ir.specs.declared.operands.Front.the-variants.{Is}
 use Rattle.ir.proofs.OperandLaws.{first-is}
 use Rattle.recordfields.specs.Fields.{tagOf, valueOf, operandsNumbers}
 use Rattle.recordfields.proofs.Pairs.{pair-length, pair-step, pair-end}

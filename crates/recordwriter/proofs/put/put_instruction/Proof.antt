@@ -9,8 +9,8 @@ use Rattle.recordwriter.specs.Bytes.{payloadBytes}
 use Rattle.recordwriter.proofs.put.put_instruction.Statement.{statement}
 use Rattle.recordwriter.proofs.put.put_instruction.Tie as tie
 
-fields-requires : tie.Need-fields-requires
-fields-requires c κs = search needs
+fields-of-requires : tie.Need-fields-of-requires
+fields-of-requires c κs = search needs
 
 put-instruction-requires : tie.Need-put-instruction-requires
 put-instruction-requires c κs = search needs
@@ -24,7 +24,7 @@ returns c =
     let f = c .before .before .before in
     let a = f .before .before .before .args in
     c .before .before .put-instruction .ensures
-    ∙ ap (λ (g : Fields). store (a .b .now) 4 (instructionBytes (a .i .result) g (listOf (a .i .operands)))) (f .fields .ensures)
+    ∙ ap (λ (g : Fields). store (a .b .now) 4 (instructionBytes (a .i .result) g (listOf (a .i .operands)))) (f .fields-of .ensures)
 
 pub put-instruction-spec : {M : Type 1} → statement M
-put-instruction-spec = tie.close (tie.spec fields-requires put-instruction-requires same-length returns)
+put-instruction-spec = tie.close (tie.spec fields-of-requires put-instruction-requires same-length returns)

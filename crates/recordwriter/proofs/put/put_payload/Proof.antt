@@ -37,9 +37,7 @@ enum-known-value-4 : tie.Need-enum-known-value-4
 enum-known-value-4 c = search needs
 
 put-instruction-requires : tie.Need-put-instruction-requires
-unfolding valid
-put-instruction-requires c κs =
-    rw (c .before .before .value4 .given .1) at (c .before .before .before .before .before .before .pre .0)
+put-instruction-requires c κs = search needs
 
 enum-known-value-5 : tie.Need-enum-known-value-5
 enum-known-value-5 c = search needs

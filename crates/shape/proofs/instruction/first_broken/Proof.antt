@@ -1,6 +1,6 @@
 -- `first_broken` answers the lowest number.
 use borrow.Author.Tests.{not-true, not-false}
-use Rattle.shape.specs.Order.{firstBroken}
+use Rattle.shape.specs.Shape.{firstBroken}
 use Rattle.shape.proofs.instruction.first_broken.Statement.{statement}
 use Rattle.shape.proofs.instruction.first_broken.Tie as tie
 

@@ -9,7 +9,6 @@ use Rattle.insn.specs.declared.Insn.{Insn}
 use Rattle.insn.specs.declared.form.Form.{Form}
 use Rattle.shape.specs.Code.{at, formAt}
 use Rattle.shape.specs.Fields.{uses}
-use Rattle.shape.specs.Order.{firstBroken}
 use Rattle.shape.specs.Shape.{shapeOf, shapeAt}
 use Rattle.shape.proofs.Tests.{implies-or}
 use borrow.Author.Needs.{needs}
@@ -21,18 +20,17 @@ by-form : (b : List ℕ) (s : ℕ) {i : Insn} {f : Form} → i ≡ at b s → f 
 unfolding shapeAt formAt
 by-form b s {i} {f} ei ef = rw (ef, ei)
 
-mul-insn-at : tie.Need-mul-insn-at
-mul-insn-at c = search needs
+cast-t6 : tie.Need-cast-t6
+cast-t6 c = search needs
 
-insn-at-requires : tie.Need-insn-at-requires
-insn-at-requires c κs = search needs
+instruction-at-requires : tie.Need-instruction-at-requires
+instruction-at-requires c κs = search needs
 
 form-of-requires : tie.Need-form-of-requires
 form-of-requires c κs = search needs
 
 known-requires : tie.Need-known-requires
-unfolding at
-known-requires c κs = (c .before .before .before .pre .0 .0, c .before .insn-at .ensures)
+known-requires c κs = (c .before .before .before .pre .0 .0, c .before .instruction-at .ensures)
 
 registers-ok-requires : tie.Need-registers-ok-requires
 registers-ok-requires c κs = search needs
@@ -53,18 +51,18 @@ first-broken-requires : tie.Need-first-broken-requires
 first-broken-requires c κs = search needs
 
 returns : tie.Need-returns
-unfolding at shapeOf firstBroken
+unfolding shapeOf
 returns c = let s = c .before .before .before .before .before .before .before .before .before .before .before in
-    let off = back w16 (c .before .before .before .before .before .before .before .before .before .insn-at .result .off) (c .before .before .struct-told .given .1 .1 .1 .0 .1) in
+    let off = back w16 (c .before .before .before .before .before .before .before .before .before .instruction-at .result .off) (c .before .before .struct-told .given .1 .1 .1 .0 .1) in
     rw (c .first-broken .ensures, implies-or (c .before .before .before .jumps .result) (c .before .target-ok .result), c .before .before .before .jumps .ensures, c .before .target-ok .ensures, c .before .before .before .before .access-ok .ensures, c .before .before .before .before .before .unused-zero .ensures, c .before .before .before .before .before .before .registers-ok .ensures, c .before .before .before .before .before .before .before .known .ensures, off)
-    (sym (by-form (s .args .code .now) (s .args .s) (c .before .before .before .before .before .before .before .before .before .insn-at .ensures) (c .before .before .before .before .before .before .before .before .form-of .ensures)))
+    (sym (by-form (s .args .code .now) (s .args .s) (c .before .before .before .before .before .before .before .before .before .instruction-at .ensures) (c .before .before .before .before .before .before .before .before .form-of .ensures)))
 
 pub shape-at-spec : {M : Type 1} → statement M
 shape-at-spec =
     tie.close
     (tie.spec
-    mul-insn-at
-    insn-at-requires
+    cast-t6
+    instruction-at-requires
     form-of-requires
     known-requires
     registers-ok-requires

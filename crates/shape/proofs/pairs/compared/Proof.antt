@@ -17,9 +17,12 @@ abbrev μ-loop : tie.MeasureT-loop
 loop-holds : tie.Need-loop-holds Inv-loop μ-loop
 loop-holds c = left-all _ _
 
-is-wide-requires : tie.Need-is-wide-requires Inv-loop μ-loop
+cast-t10 : tie.Need-cast-t10 Inv-loop μ-loop
 unfolding slots
-is-wide-requires c κs = omega arith
+cast-t10 c = omega arith
+
+is-wide-requires : tie.Need-is-wide-requires Inv-loop μ-loop
+is-wide-requires c κs = search needs
 
 pair-at-requires : tie.Need-pair-at-requires Inv-loop μ-loop
 unfolding slots
@@ -81,6 +84,7 @@ compared-spec =
     Inv-loop
     μ-loop
     loop-holds
+    cast-t10
     is-wide-requires
     pair-at-requires
     enum-told

@@ -14,11 +14,17 @@ returns : tie.Need-returns
 unfolding pairAt
 returns c = simp (le-leb _ _ (c .if1 .taken))
 
-mul-is-offset : tie.Need-mul-is-offset
-mul-is-offset c = search needs
+mul-t4 : tie.Need-mul-t4
+mul-t4 c = search needs
 
-shared-slice-read-is-offset : tie.Need-shared-slice-read-is-offset
-shared-slice-read-is-offset c = search needs
+shared-slice-read-t8 : tie.Need-shared-slice-read-t8
+shared-slice-read-t8 c = search needs
+
+cast-t9 : tie.Need-cast-t9
+cast-t9 c = let s = c .before .before .before in omega (arith, c .shared-slice-known2 .given (s .args .k))
+
+cast-t11 : tie.Need-cast-t11
+cast-t11 c = search needs
 
 is-offset-requires : tie.Need-is-offset-requires
 is-offset-requires c κs = search needs
@@ -26,8 +32,8 @@ is-offset-requires c κs = search needs
 sub-if3 : tie.Need-sub-if3
 sub-if3 c = search needs
 
-add-t12 : tie.Need-add-t12
-add-t12 c = search needs
+add-t16 : tie.Need-add-t16
+add-t16 c = search needs
 
 returns-2 : tie.Need-returns-2
 unfolding pairAt
@@ -50,11 +56,13 @@ pair-at-spec =
     tie.close
     (tie.spec
     returns
-    mul-is-offset
-    shared-slice-read-is-offset
+    mul-t4
+    shared-slice-read-t8
+    cast-t9
+    cast-t11
     is-offset-requires
     sub-if3
-    add-t12
+    add-t16
     returns-2
     returns-3
     returns-4)

@@ -1,6 +1,7 @@
 -- `contains` reads the bit.
 use mathlib.Core.Path.{refl}
-use Rattle.shape.specs.Set.{bit, member}
+use Rattle.wire.specs.Bit.{bit}
+use Rattle.shape.specs.Set.{member}
 use borrow.Author.Needs.{needs}
 use Rattle.shape.proofs.set.contains.Statement.{statement}
 use Rattle.shape.proofs.set.contains.Tie as tie

@@ -4,6 +4,9 @@ use borrow.Author.Needs.{needs}
 use Rattle.shape.proofs.set.next.Statement.{statement}
 use Rattle.shape.proofs.set.next.Tie as tie
 
+cast-t4 : tie.Need-cast-t4
+cast-t4 c = search needs
+
 is-wide-requires : tie.Need-is-wide-requires
 is-wide-requires c κs = search needs
 
@@ -22,4 +25,4 @@ unfolding after
 returns-2 c = simp (← c .before .is-wide .ensures, c .if1 .left)
 
 pub next-spec : {M : Type 1} → statement M
-next-spec = tie.close (tie.spec is-wide-requires add-result returns add-result-2 returns-2)
+next-spec = tie.close (tie.spec cast-t4 is-wide-requires add-result returns add-result-2 returns-2)

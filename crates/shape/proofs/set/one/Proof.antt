@@ -1,5 +1,5 @@
 -- `one` is a power of 2.
-use Rattle.shape.proofs.Members.{shl-one}
+use Rattle.wire.proofs.Bits.{shl-one}
 use borrow.Author.Needs.{needs}
 use Rattle.shape.proofs.set.one.Statement.{statement}
 use Rattle.shape.proofs.set.one.Tie as tie
@@ -8,7 +8,7 @@ shl-result : tie.Need-shl-result
 shl-result c = search needs
 
 returns : tie.Need-returns
-returns c = shl-one (c .args .k) (c .pre)
+returns c = shl-one (c .args .k) 64 (c .pre)
 
 pub one-spec : {M : Type 1} → statement M
 one-spec = tie.close (tie.spec shl-result returns)

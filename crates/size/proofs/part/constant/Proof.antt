@@ -1,33 +1,28 @@
 -- `constant` refuses what is outside i32.
-use native.Mathlib.Omega.{arith}
-use borrow.Author.Tests.{lt-ltb}
-use lib.Signed.{mag}
+use mathlib.Core.Path.{sym, ap, _∙_}
 use mir.Syntax.{w64}
 use mir.ValLaws.{toZ-ofZ}
-use Rattle.lower.specs.Operand.{fits32}
-use Rattle.lower.proofs.Range.{below, above, inside}
+use Rattle.wire.specs.Range.{fits32}
 use Rattle.size.specs.Part.{ofConstant}
+use borrow.Author.Needs.{needs}
 use Rattle.size.proofs.part.constant.Statement.{statement}
 use Rattle.size.proofs.part.constant.Tie as tie
 
+fits32-requires : tie.Need-fits32-requires
+fits32-requires c κs = search needs
+
 returns : tie.Need-returns
-unfolding ofConstant fits32
+unfolding ofConstant
 returns c =
-    let s = c .before in
-    rw (below w64 (s .args .z) 2147483647 (s .fits .z) (c .if1 .taken), toZ-ofZ w64 (s .args .z) (s .fits .z))
+    let s = c .before .before in
+    rw (ap fits32 (sym (toZ-ofZ w64 (s .args .z) (s .fits .z))) ∙ sym (c .before .fits32 .ensures) ∙ c .if1 .taken)
 
 returns-2 : tie.Need-returns-2
-unfolding ofConstant fits32
+unfolding ofConstant
 returns-2 c =
     let s = c .before .before in
-    rw (above w64 (s .args .z) 2147483647 (s .fits .z) (c .if2 .taken), toZ-ofZ w64 (s .args .z) (s .fits .z))
-
-returns-3 : tie.Need-returns-3
-unfolding ofConstant fits32
-returns-3 c =
-    let s = c .before .before in
-    let h = inside w64 (s .args .z) 2147483647 (s .fits .z) (c .before .if1 .left) (c .if2 .left) in
-    rw (lt-ltb (mag (s .args .z)) 2147483648 (omega arith))
+    let e = toZ-ofZ w64 (s .args .z) (s .fits .z) in
+    rw (e, ap fits32 (sym e) ∙ sym (c .before .fits32 .ensures) ∙ c .if1 .left)
 
 pub constant-spec : {M : Type 1} → statement M
-constant-spec = tie.close (tie.spec returns returns-2 returns-3)
+constant-spec = tie.close (tie.spec fits32-requires returns returns-2)

@@ -10,18 +10,17 @@ use Rattle.tracepoint.proofs.write.put_instruction.Tie as tie
 condition-of-requires : tie.Need-condition-of-requires
 condition-of-requires c κs = search needs
 
-cast-lower-instruction : tie.Need-cast-lower-instruction
-cast-lower-instruction c = search needs
-
-mul-lower-instruction : tie.Need-mul-lower-instruction
-mul-lower-instruction c = search needs
+byte-offset-requires : tie.Need-byte-offset-requires
+byte-offset-requires c κs = search needs
 
 lower-instruction-requires : tie.Need-lower-instruction-requires
 lower-instruction-requires c κs = search needs
 
 put-relocation-requires : tie.Need-put-relocation-requires
 put-relocation-requires c κs =
-    told-room [] _ 0 (tidy-payload _ _ _ _) (c .before .before .before .lower-instruction .ensures .0) (rw (← asked-is _ _ _ (c .before .before .before .before .before .before .before .before .before .before .before .before .args .j) _ (c .before .before .before .before .before .before .before .condition-of .ensures)) at (c .before .before .before .before .before .before .before .before .before .before .before .before .pre .1))
+    let s = c .before .before .before .before .before .before .before .before .before .before .before .before in
+    let t = c .before .before .before .before .before .before .before .condition-of in
+    told-room [] _ 0 (tidy-payload _ _ _ _) (c .before .before .before .lower-instruction .ensures .0) (rw (← asked-is _ _ _ (s .args .j) _ (t .ensures)) at (s .pre .1))
 
 ring-after-requires : tie.Need-ring-after-requires
 ring-after-requires c κs = search needs
@@ -34,15 +33,18 @@ same-length-2 c = search needs
 
 returns : tie.Need-returns
 returns c =
-    (λ xs. rw (← asked-is _ _ _ (c .before .before .before .before .before .before .before .before .before .before .before .before .before .before .before .before .args .j) _ (c .before .before .before .before .before .before .before .before .before .before .before .condition-of .ensures)) (puts-told xs _ 0 (tidy-payload _ _ _ _) (c .before .before .before .before .before .before .before .lower-instruction .ensures .0) (rw (← asked-is _ _ _ (c .before .before .before .before .before .before .before .before .before .before .before .before .before .before .before .before .args .j) _ (c .before .before .before .before .before .before .before .before .before .before .before .condition-of .ensures)) at (c .before .before .before .before .before .before .before .before .before .before .before .before .before .before .before .before .pre .1)) (c .before .before .before .before .before .before .before .lower-instruction .ensures .1) (c .before .before .before .put-relocation .ensures)), c .ring-after .ensures ∙ ring-is _ _ _ (c .before .before .before .before .before .before .before .before .before .before .before .before .before .before .before .before .args .j) _ (c .before .before .before .before .before .before .before .before .before .before .before .condition-of .ensures) (c .before .before .before .before .before .before .before .lower-instruction .ensures .0))
+    let s = c .before .before .before .before .before .before .before .before .before .before .before .before .before .before .before .before in
+    let t = c .before .before .before .before .before .before .before .before .before .before .before .condition-of in
+    let l = c .before .before .before .before .before .before .before .lower-instruction in
+    let o = c .before .before .before .before .before .before .before .before .byte-offset in
+    (λ xs. rw (← asked-is _ _ _ (s .args .j) _ (t .ensures)) (puts-told xs _ 0 (tidy-payload _ _ _ _) (l .ensures .0) (rw (← asked-is _ _ _ (s .args .j) _ (t .ensures)) at (s .pre .1)) (rw (o .ensures) at (l .ensures .1)) (c .before .before .before .put-relocation .ensures)), c .ring-after .ensures ∙ ring-is _ _ _ (s .args .j) _ (t .ensures) (l .ensures .0))
 
 pub put-instruction-spec : {M : Type 1} → statement M
 put-instruction-spec =
     tie.close
     (tie.spec
     condition-of-requires
-    cast-lower-instruction
-    mul-lower-instruction
+    byte-offset-requires
     lower-instruction-requires
     put-relocation-requires
     ring-after-requires

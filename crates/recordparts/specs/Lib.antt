@@ -1,0 +1,2 @@
+pub mod Terminator
+pub mod Stands
