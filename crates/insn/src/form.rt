@@ -5,7 +5,7 @@ ghost use Rattle.insn.specs.Form.{form_of, number_of};
 use ir::BinaryOp;
 
 // The sizes of a load or store, in the order of RFC 9669's size field.
-#[derive(Drop)]
+#[derive(Clone, Copy)]
 pub enum Size {
     W,
     H,
@@ -13,7 +13,7 @@ pub enum Size {
     Dw,
 }
 
-#[derive(Drop)]
+#[derive(Clone, Copy)]
 pub enum Form {
     NoForm,
     WideLoad,

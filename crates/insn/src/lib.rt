@@ -1,4 +1,5 @@
 // One eBPF instruction: its fields, its 8 bytes, its opcodes.
+#![tactic(auto)]
 pub mod form;
 pub mod helper;
 
@@ -11,7 +12,7 @@ ghost use Rattle.insn.specs.Form.{opcode_of, mem_code};
 use form::{Form, Size};
 use ir::BinaryOp;
 
-#[derive(Drop)]
+#[derive(Clone, Copy)]
 pub struct Insn {
     pub code: u8,
     pub dst: u8,

@@ -1,15 +1,16 @@
 // A unit's instructions and terminators, as values. A map is a number: the place of its record among the maps.
+#![tactic(auto)]
 pub mod operands;
 
 use operands::Operands;
 
-#[derive(Drop)]
+#[derive(Clone, Copy)]
 pub enum Operand {
     Var(u32),
     Immediate(i64),
 }
 
-#[derive(Drop)]
+#[derive(Clone, Copy)]
 pub enum BinaryOp {
     Add,
     Sub,
@@ -20,7 +21,7 @@ pub enum BinaryOp {
     Shr,
 }
 
-#[derive(Drop)]
+#[derive(Clone, Copy)]
 pub enum Opcode {
     HelperCall { id: u32 },
 
@@ -48,14 +49,14 @@ pub enum Opcode {
     RingBufSubmit { map: u32 },
 }
 
-#[derive(Drop)]
+#[derive(Clone, Copy)]
 pub struct Instruction {
     pub result: u32,
     pub opcode: Opcode,
     pub operands: Operands,
 }
 
-#[derive(Drop)]
+#[derive(Clone, Copy)]
 pub enum Terminator {
     Return(Operand),
     Jump(u32),

@@ -4,7 +4,7 @@ ghost use Rattle.ir.specs.Operands.{list_of, first_of, rest_of, pushed};
 
 use crate::Operand;
 
-#[derive(Drop)]
+#[derive(Clone, Copy)]
 pub enum Operands {
     Zero,
     One(Operand),

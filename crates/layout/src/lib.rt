@@ -1,1 +1,2 @@
 // How the operations of a unit's blocks follow each other: definitions and laws. No code.
+#![tactic(auto)]

@@ -1,4 +1,5 @@
 // What an instruction or a terminator becomes.
+#![tactic(auto)]
 mod instruction;
 mod list;
 mod piece;
@@ -17,7 +18,7 @@ use ir::Terminator;
 use piece::Step;
 
 // Why an instruction is refused.
-#[derive(Drop)]
+#[derive(Clone, Copy)]
 pub enum Reason {
     Count(u8),
     Immediate(i64),
@@ -36,7 +37,7 @@ pub enum Outcome {
 }
 
 // A map's number, or none.
-#[derive(Drop)]
+#[derive(Clone, Copy)]
 pub enum MapUse {
     Nothing,
     Map(u32),

@@ -36,7 +36,7 @@ pub enum Step {
 }
 
 // None to two instructions, each as its word, or why they are refused.
-#[derive(Drop)]
+#[derive(Clone, Copy)]
 pub enum Piece {
     Refused(Reason),
     Nothing,

@@ -1,4 +1,5 @@
 // An instruction's opcode, from the four fields of its payload, and what a record's writer asks of one.
+#![tactic(auto)]
 pub mod asks;
 
 ghost use Rattle.std.specs.Prelude.{◌≡◌, get_or};
@@ -8,7 +9,7 @@ ghost use Rattle.wire.specs.Pick.{both, is_zero};
 
 use ir::{BinaryOp, Opcode};
 
-#[derive(Drop)]
+#[derive(Clone, Copy)]
 pub struct Fields {
     pub code: u8,
     pub small: u8,

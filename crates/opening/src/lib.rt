@@ -1,4 +1,5 @@
 // The head and the maps of a unit.
+#![tactic(auto)]
 mod names;
 mod refused;
 mod signatures;

@@ -1,4 +1,5 @@
 // The registers readable on all paths through a code.
+#![tactic(auto)]
 mod node;
 mod work;
 

@@ -1,1 +1,2 @@
 // Theorems over the definitions of the crates below. No code.
+#![tactic(auto)]

@@ -1,4 +1,5 @@
 // One record of the unit file, read.
+#![tactic(auto)]
 pub mod instruction;
 pub mod payload;
 pub mod terminator;
@@ -12,7 +13,7 @@ use ir::{Instruction, Terminator};
 use payload::Payload;
 use wire::refusal::Refusal;
 
-#[derive(Drop)]
+#[derive(Clone, Copy)]
 pub struct Head {
     pub edition: u16,
     pub maps: u16,
@@ -20,7 +21,7 @@ pub struct Head {
 }
 
 // A record's value. A map's is where its name lies.
-#[derive(Drop)]
+#[derive(Clone, Copy)]
 pub enum Record {
     Head(Head),
     Map { start: usize, len: usize },
@@ -30,7 +31,7 @@ pub enum Record {
 }
 
 // What may stand next in a unit: inside a block, an instruction or its terminator.
-#[derive(Drop)]
+#[derive(Clone, Copy)]
 pub enum Due {
     Head,
     Map,

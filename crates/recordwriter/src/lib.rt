@@ -1,4 +1,5 @@
 // One record of the unit file, written.
+#![tactic(auto)]
 mod put;
 mod size;
 

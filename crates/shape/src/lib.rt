@@ -1,4 +1,5 @@
 // The shape of code from anyone: each instruction by itself, and the relocations.
+#![tactic(auto)]
 mod fields;
 mod instruction;
 mod pairs;

@@ -1,4 +1,5 @@
 // From a unit's bytes to instruction bytes and relocations.
+#![tactic(auto)]
 mod compile;
 mod context;
 mod measure;

@@ -1,4 +1,5 @@
 // The whole unit file.
+#![tactic(auto)]
 mod walk;
 
 ghost use Rattle.std.specs.Prelude.{◌≡◌};
@@ -9,7 +10,7 @@ use opening::{BodyAt, HeadAt, MapAt};
 use record::Fault;
 
 // A unit that was read whole: how many maps and blocks it has, and where its blocks begin.
-#[derive(Drop)]
+#[derive(Clone, Copy)]
 pub struct Found {
     pub maps: u16,
     pub blocks: u32,

@@ -1,4 +1,5 @@
 // Little-endian numbers in lent bytes. A number that does not lie whole in the bytes reads as 0 and is not written.
+#![tactic(auto)]
 pub mod number;
 pub mod range;
 pub mod refusal;

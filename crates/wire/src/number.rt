@@ -7,7 +7,7 @@ ghost use Rattle.wire.specs.Number.{bytes_before};
 pub struct ByteOffset(pub u64);
 
 // Slots from the code's start: what a jump counts.
-#[derive(Drop)]
+#[derive(Clone, Copy)]
 pub struct SlotNumber(pub u32);
 
 // From slots to bytes, for the place of a relocation: the only conversion between the two.

@@ -1,0 +1,19 @@
+-- `index_at` takes the guess where the variable stands there, and searches elsewhere.
+use mathlib.Core.Path.{◌∙◌}
+use mathlib.Core.Logic.{⊎_elim}
+use Rattle.frame.specs.Hint.{guess}
+use Rattle.frame.proofs.Hints.{guessed, not_there, past_end}
+use Rattle.frame.proofs.hint.index_at.Goals as goal
+
+pub returns-then-v-variables : goal.returns-then-v-variables
+unfolding guess
+returns-then-v-variables c =
+    guessed c.args.variables.now c.args.hints.now c.args.v c.wide8-guess.ensures c.if-guess-variables.true c.if-v-variables.true
+
+pub returns : goal.returns
+unfolding guess
+returns c =
+    let vs = c.args.variables.now in
+    let hs = c.args.hints.now in
+    let g = c.wide8-guess.ensures in
+    c.find.ensures ∙ ⊎_elim (λ w. not_there vs hs c.args.v g w.0.taken w.2.left) (λ w. past_end vs hs c.args.v g w.left) c.if-guess-variables.branch

@@ -1,0 +1,39 @@
+-- `count` is the length of the list.
+use Rattle.ir.specs.Operands.{list_of}
+use Rattle.ir.proofs.operands.count.Goals as goal
+
+pub returns-in-Zero : goal.returns-in-Zero
+unfolding list_of
+returns-in-Zero c = rw c.in-Zero.is
+
+pub returns-in-One : goal.returns-in-One
+unfolding list_of
+returns-in-One c = rw c.in-One.is
+
+pub returns-in-Two : goal.returns-in-Two
+unfolding list_of
+returns-in-Two c = rw c.in-Two.is
+
+pub returns-in-Three : goal.returns-in-Three
+unfolding list_of
+returns-in-Three c = rw c.in-Three.is
+
+pub returns-in-Four : goal.returns-in-Four
+unfolding list_of
+returns-in-Four c = rw c.in-Four.is
+
+pub returns-in-Five : goal.returns-in-Five
+unfolding list_of
+returns-in-Five c = rw c.in-Five.is
+
+pub returns-in-Six : goal.returns-in-Six
+unfolding list_of
+returns-in-Six c = rw c.in-Six.is
+
+pub returns-in-Seven : goal.returns-in-Seven
+unfolding list_of
+returns-in-Seven c = rw c.in-Seven.is
+
+pub returns-in-Eight : goal.returns-in-Eight
+unfolding list_of
+returns-in-Eight c = rw c.in-Eight.is

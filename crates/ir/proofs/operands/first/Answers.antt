@@ -1,0 +1,39 @@
+-- `first` is the first operand, where there is one.
+use Rattle.ir.specs.Operands.{first_of}
+use Rattle.ir.proofs.operands.first.Goals as goal
+
+pub returns-in-Zero : goal.returns-in-Zero
+unfolding first_of
+returns-in-Zero c = rw c.in-Zero.is
+
+pub returns-in-One : goal.returns-in-One
+unfolding first_of
+returns-in-One c = rw c.in-One.is
+
+pub returns-in-Two : goal.returns-in-Two
+unfolding first_of
+returns-in-Two c = rw c.in-Two.is
+
+pub returns-in-Three : goal.returns-in-Three
+unfolding first_of
+returns-in-Three c = rw c.in-Three.is
+
+pub returns-in-Four : goal.returns-in-Four
+unfolding first_of
+returns-in-Four c = rw c.in-Four.is
+
+pub returns-in-Five : goal.returns-in-Five
+unfolding first_of
+returns-in-Five c = rw c.in-Five.is
+
+pub returns-in-Six : goal.returns-in-Six
+unfolding first_of
+returns-in-Six c = rw c.in-Six.is
+
+pub returns-in-Seven : goal.returns-in-Seven
+unfolding first_of
+returns-in-Seven c = rw c.in-Seven.is
+
+pub returns-in-Eight : goal.returns-in-Eight
+unfolding first_of
+returns-in-Eight c = rw c.in-Eight.is

@@ -1,0 +1,13 @@
+-- `shurtenbo_compile` tells what `compile_tracepoint` answers.
+use mathlib.Core.Path.{ap, sym, ◌∙◌}
+use Rattle.shurtenbo.specs.Answer.{numbers_of}
+use Rattle.shurtenbo.specs.Units.{compiled_numbers}
+use Rattle.shurtenbo.proofs.units.shurtenbo_compile.Goals as goal
+
+pub returns-in-Done : goal.returns-in-Done
+unfolding compiled_numbers
+returns-in-Done c = (c.done.ensures ∙ ap compiled_numbers (sym c.in-Done.is ∙ c.compile_tracepoint.ensures.value), c.compile_tracepoint.ensures.code_after)
+
+pub returns-in-Refused : goal.returns-in-Refused
+unfolding compiled_numbers
+returns-in-Refused c = (c.refused.ensures ∙ ap numbers_of c.refusal.ensures ∙ ap compiled_numbers (sym c.in-Refused.is ∙ c.compile_tracepoint.ensures.value), c.compile_tracepoint.ensures.code_after)

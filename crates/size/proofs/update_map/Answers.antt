@@ -1,0 +1,16 @@
+-- UpdateMap.
+use mathlib.Core.Path.{◌∙◌}
+use Rattle.lower.specs.Instruction.{opcode}
+use Rattle.size.specs.Size.{size_by}
+use Rattle.size.proofs.Opcodes.{not_two_refused, judged_two, update_map}
+use Rattle.size.proofs.update_map.Goals as goal
+
+pub returns-then-n-ne2 : goal.returns-then-n-ne2
+unfolding size_by opcode
+returns-then-n-ne2 c = c.refused.ensures ∙ not_two_refused c.args.payload.now _ c.get_u8-n.result c.get_u8-n.ensures c.if-n-ne2.true
+
+pub returns : goal.returns
+returns c =
+    let p = c.args.payload.now in
+    let outcome = judged_two p c.operand_in-a.ensures c.operand_in-b.ensures c.judge.ensures c.judge-outcome.ensures in
+    rw (← update_map p c.get_u8-n.result c.get_u8-n.ensures c.if-n-ne2.false _) (c.takes.ensures ∙ simp (outcome, c.get_u32.ensures, c.address_slots.ensures.0, c.address_slots-2.ensures.0, c.operand_in-a.ensures, c.operand_in-b.ensures))
