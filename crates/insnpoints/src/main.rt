@@ -1,6 +1,7 @@
 // Reads eBPF instructions from standard input, and writes for each the line that LLVM's disassembler has: the bytes, encoded
 // again from the decoded fields, and the words for these fields.
 #![tactic(auto)]
+
 mod line;
 mod operand;
 mod text;

@@ -1,5 +1,6 @@
 // Replays the stored lists of data/, each case through the public functions, and prints each answer.
 #![tactic(auto)]
+
 mod codes;
 mod hash;
 mod input;

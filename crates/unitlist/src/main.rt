@@ -1,5 +1,6 @@
 // Lists what a unit becomes: the counts, each slot with its 8 bytes, each relocation with its map's name; or the refusal.
 #![tactic(auto)]
+
 use libc::{STDIN_FILENO, STDOUT_FILENO};
 use tracepoint::Compiled;
 use wire::number::{ByteOffset, SlotNumber};
