@@ -37,9 +37,8 @@ pub returns-in-Immediate : goal.returns-in-Immediate
 unfolding operand_bytes
 returns-in-Immediate c =
     let room : c.args.at + 9 ≤ length c.args.b.now = leb-true _ _ (sym c.lies.ensures ∙ c.if-lies.true) in
-    let z = c.o-in-Immediate-1.given in
-    rw z.1
-    ((byte 1 (omega arith) c.put_u8-in-Immediate.ensures ▸ signed w64 z.0.0 (record { sfits = omega arith }) c.put_i64.ensures).left room)
+    rw c.in-Immediate.is
+    ((byte 1 (omega arith) c.put_u8-in-Immediate.ensures ▸ signed w64 c.in-Immediate.z (record { sfits = omega arith }) c.put_i64.ensures).left room)
 
 pub returns-else-lies : goal.returns-else-lies
 returns-else-lies c =

@@ -38,4 +38,4 @@ loop-o-preserved c =
     let l = c.loop-o in
     let n = one_more_lem in
     let w = c.put_operand in
-    rw c.rest-left.ensures (omega (arith, w.auto.0), w.auto.0 ∙ l.invariant.1, operand_step l.left _ l.b l.i first_there w.ensures l.invariant.0 ∙ l.invariant.2)
+    rw c.rest-left.ensures (omega (arith, w.auto.b), w.auto.b ∙ l.invariant.1, operand_step l.left _ l.b l.i first_there w.ensures l.invariant.0 ∙ l.invariant.2)

@@ -27,8 +27,8 @@ returns-then-lies c =
     ▸ piece _ (c.put_word-end-then-lies.ensures.value, c.put_word-end-then-lies.ensures.out_after)
     ▸ piece _ (c.put_decimal-end-then-lies.ensures.value, c.put_decimal-end-then-lies.ensures.out_after)
     ▸ piece _ (c.put_word-end-then-lies-2.ensures.value, c.put_word-end-then-lies-2.ensures.out_after)
-    ▸ piece _ (rw v at (c.put_sign-end.ensures.value, c.put_sign-end.ensures.out_after))
-    ▸ piece _ (rw (c.magnitude-size.ensures, v) at (c.put_decimal-end-then-lies-2.ensures.value, c.put_decimal-end-then-lies-2.ensures.out_after))
+    ▸ piece _ (rw v at c.put_sign-end.ensures.value, rw v at c.put_sign-end.ensures.out_after)
+    ▸ piece _ (rw (c.magnitude-size.ensures, v) at c.put_decimal-end-then-lies-2.ensures.value, rw (c.magnitude-size.ensures, v) at c.put_decimal-end-then-lies-2.ensures.out_after)
     ▸ piece _ (c.put_word.ensures.value, c.put_word.ensures.out_after))
     fits in
     record { value = shown.0; out_after = shown.1 }

@@ -15,7 +15,7 @@ returns-then-lies c =
     let shown = whole
     (piece _ (c.put_decimal-end.ensures.value, c.put_decimal-end.ensures.out_after)
     ▸ piece _ (c.put_word-end.ensures.value, c.put_word-end.ensures.out_after)
-    ▸ piece _ (rw (c.get_u64.ensures, c.byte_offset-place.ensures) at (c.put_hex-end.ensures.value, c.put_hex-end.ensures.out_after))
+    ▸ piece _ (rw (c.get_u64.ensures, c.byte_offset-place.ensures) at c.put_hex-end.ensures.value, rw (c.get_u64.ensures, c.byte_offset-place.ensures) at c.put_hex-end.ensures.out_after)
     ▸ piece _ (c.put_word.ensures.value, c.put_word.ensures.out_after))
     fits in
     record { value = shown.0; out_after = shown.1 }

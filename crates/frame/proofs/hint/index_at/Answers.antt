@@ -1,9 +1,9 @@
 -- `index_at` takes the guess where the variable stands there, and searches elsewhere.
 use mathlib.Core.Path.{◌∙◌}
-use mathlib.Core.Logic.{⊎_elim}
 use Rattle.frame.specs.Hint.{guess}
 use Rattle.frame.proofs.Hints.{guessed, not_there, past_end}
 use Rattle.frame.proofs.hint.index_at.Goals as goal
+use Rattle.frame.proofs.hint.index_at.Goals.{then-guess-variables+else-v-variables, else-guess-variables}
 
 pub returns-then-v-variables : goal.returns-then-v-variables
 unfolding guess
@@ -16,4 +16,4 @@ returns c =
     let vs = c.args.variables.now in
     let hs = c.args.hints.now in
     let g = c.wide8-guess.ensures in
-    c.find.ensures ∙ ⊎_elim (λ w. not_there vs hs c.args.v g w.0.taken w.2.left) (λ w. past_end vs hs c.args.v g w.left) c.if-guess-variables.branch
+    c.find.ensures ∙ elim c.if-guess-variables.branch [ then-guess-variables+else-v-variables w ↦ not_there vs hs c.args.v g w.if-guess-variables.true w.if-v-variables.false | else-guess-variables w ↦ past_end vs hs c.args.v g w.if-guess-variables.false ]
