@@ -17,11 +17,7 @@ pub(crate) fn word(line: &mut [u8], at: usize, s: &[u8]) -> usize {
 }
 
 pub(crate) fn decimal(line: &mut [u8], at: usize, x: u64) -> usize {
-    let end = if 9 < x {
-        decimal(line, at, x / 10)
-    } else {
-        at
-    };
+    let end = if 9 < x { decimal(line, at, x / 10) } else { at };
     byte(line, end, 48 + ((x % 10) as u8))
 }
 

@@ -1,5 +1,6 @@
 // Replays the stored lists of data/, each case through the public functions, and prints each answer.
 #![tactic(auto)]
+
 mod codes;
 mod hash;
 mod input;
@@ -8,9 +9,11 @@ mod output;
 mod records;
 mod units;
 
-fn main() {
-    units::replay();
-    records::replay();
-    codes::replay();
-    lowering::replay();
+use std::io;
+
+fn main(rt: HostRuntime) -> io::Result<()> {
+    units::replay(&rt)?;
+    records::replay(&rt)?;
+    codes::replay(&rt)?;
+    lowering::replay(&rt)
 }

@@ -58,12 +58,7 @@ fn reloc(out: &impl Print, unit: &[u8], number: u32, map: u32) -> io::Result<()>
 fn relocs(out: &impl Print, unit: &[u8], pairs: &[u32], count: u32) -> io::Result<()> {
     for i in 0..count {
         let at = 2 * (i as usize);
-        reloc(
-            out,
-            unit,
-            number_at(pairs, at),
-            number_at(pairs, at + 1),
-        )?;
+        reloc(out, unit, number_at(pairs, at), number_at(pairs, at + 1))?;
     }
     Ok(())
 }
