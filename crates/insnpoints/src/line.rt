@@ -10,25 +10,28 @@ fn byte(line: &mut [u8], at: usize, b: u8) -> usize {
 
 pub(crate) fn word(line: &mut [u8], at: usize, s: &[u8]) -> usize {
     let mut end = at;
-    let mut i = 0;
-    while i < s.len() {
-        end = byte(line, end, s[i]);
-        i += 1;
+    for b in s {
+        end = byte(line, end, *b);
     }
     end
 }
 
 pub(crate) fn decimal(line: &mut [u8], at: usize, x: u64) -> usize {
-    let mut digits = [0u8; 20];
-    let n = io::decimal(x, &mut digits);
-    word(line, at, &digits[..n])
+    let end = if 9 < x { decimal(line, at, x / 10) } else { at };
+    byte(line, end, 48 + ((x % 10) as u8))
 }
 
-// At least so many digits as `width` says.
+// At least so many digits as `width` says; 16 at the most.
 pub(crate) fn hex(line: &mut [u8], at: usize, x: u64, width: usize) -> usize {
-    let mut digits = [0u8; 16];
-    let n = io::hex(x, width, &mut digits);
-    word(line, at, &digits[..n])
+    let digits = b"0123456789abcdef";
+    let mut end = at;
+    for k in 0..16 {
+        let rest = x >> (60 - 4 * k);
+        if 0 < rest || k == 15 || 16 - k <= width {
+            end = byte(line, end, digits[(rest % 16) as usize]);
+        }
+    }
+    end
 }
 
 fn octet(line: &mut [u8], at: usize, b: u8) -> usize {
@@ -38,11 +41,9 @@ fn octet(line: &mut [u8], at: usize, b: u8) -> usize {
 // The eight bytes, parted by blanks.
 pub(crate) fn octets(line: &mut [u8], at: usize, b: &[u8; 8]) -> usize {
     let mut end = octet(line, at, b[0]);
-    let mut k = 1;
-    while k < 8 {
+    for k in 1..8 {
         end = word(line, end, b" ");
         end = octet(line, end, b[k]);
-        k += 1;
     }
     end
 }

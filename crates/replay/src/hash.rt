@@ -7,7 +7,7 @@ fn times_prime(h: u64) -> u64 {
     let low = h % 4294967296 * 435;
     let high = h / 4294967296 * 435 % 4294967296 * 4294967296;
     let top = h % 16777216 * 1099511627776;
-    std::num::wrapping_add_u64(std::num::wrapping_add_u64(low, high), top)
+    low.wrapping_add(high).wrapping_add(top)
 }
 
 fn with(h: u64, byte: u8) -> u64 {
@@ -24,10 +24,8 @@ fn high(x: u16) -> u8 {
 
 pub(crate) fn bytes(list: &[u8]) -> u64 {
     let mut h = BASIS;
-    let mut i = 0;
-    while i < list.len() {
-        h = with(h, list[i]);
-        i += 1;
+    for b in list {
+        h = with(h, *b);
     }
     h
 }
@@ -35,12 +33,9 @@ pub(crate) fn bytes(list: &[u8]) -> u64 {
 // The low byte of each number first.
 pub(crate) fn numbers(list: &[u16]) -> u64 {
     let mut h = BASIS;
-    let mut i = 0;
-    while i < list.len() {
-        let x = list[i];
-        h = with(h, low(x));
-        h = with(h, high(x));
-        i += 1;
+    for x in list {
+        h = with(h, low(*x));
+        h = with(h, high(*x));
     }
     h
 }

@@ -1,16 +1,19 @@
 // Units, lowered: the counts, the code and the relocations, or the refusal.
 use crate::input::Next;
 use crate::{hash, input, output};
+use std::fs;
+use std::io::{self, Read};
+use std::rt::Files;
 use tracepoint::Compiled;
 
-fn code_told(code: &[u8]) {
+fn code_told(out: &impl Print, code: &[u8]) -> io::Result<()> {
     if code.len() <= 3200 {
-        output::hex(code);
+        output::hex(out, code)?;
     } else {
-        output::word(b"fnv1a ");
-        output::hex_of(hash::bytes(code), 16);
+        output::word(out, b"fnv1a ")?;
+        output::hex_of(out, hash::bytes(code), 16)?;
     }
-    output::word(b"\n");
+    output::word(out, b"\n")
 }
 
 fn wide(n: u32) -> u64 {
@@ -25,79 +28,92 @@ fn number_at(relocs: &[u32], i: usize) -> u64 {
 }
 
 // Pairs, blanks between them.
-fn pairs_told(relocs: &[u32], count: u32) {
-    let mut i: u32 = 0;
-    while i < count {
+fn pairs_told(out: &impl Print, relocs: &[u32], count: u32) -> io::Result<()> {
+    for i in 0..count {
         if 0 < i {
-            output::word(b" ");
+            output::word(out, b" ")?;
         }
-        output::decimal(number_at(relocs, 2 * (i as usize)));
-        output::word(b":");
-        output::decimal(number_at(relocs, 2 * (i as usize) + 1));
-        i += 1;
+        output::decimal(out, number_at(relocs, 2 * (i as usize)))?;
+        output::word(out, b":")?;
+        output::decimal(out, number_at(relocs, 2 * (i as usize) + 1))?;
     }
-    output::word(b"\n");
+    output::word(out, b"\n")
 }
 
-fn told(slots: u32, relocations: u32, code: &[u8], relocs: &[u32]) {
-    output::word(b"slots ");
-    output::decimal(slots as u64);
-    output::word(b" relocs ");
-    output::decimal(relocations as u64);
-    output::word(b"\n");
+fn told(
+    out: &impl Print,
+    slots: u32,
+    relocations: u32,
+    code: &[u8],
+    relocs: &[u32],
+) -> io::Result<()> {
+    output::word(out, b"slots ")?;
+    output::decimal(out, slots as u64)?;
+    output::word(out, b" relocs ")?;
+    output::decimal(out, relocations as u64)?;
+    output::word(out, b"\n")?;
     let n = 8 * (slots as usize);
     if n <= code.len() {
-        code_told(&code[0..n]);
+        code_told(out, &code[0..n])?;
     }
-    pairs_told(relocs, relocations);
+    pairs_told(out, relocs, relocations)
 }
 
-fn lowered(unit: &[u8], code: &mut [u8], relocs: &mut [u32]) {
+fn lowered(out: &impl Print, unit: &[u8], code: &mut [u8], relocs: &mut [u32]) -> io::Result<()> {
     match tracepoint::compile_tracepoint(unit, code, relocs) {
-        Compiled::Done(slots, relocations) => told(slots, relocations, code, relocs),
-        Compiled::Refused(f) => output::refused(tracepoint::refusal(f)),
+        Compiled::Done(slots, relocations) => told(out, slots, relocations, code, relocs),
+        Compiled::Refused(f) => output::refused(out, tracepoint::refusal(f)),
     }
 }
 
-fn case(fd: i32, len: usize, unit: &mut [u8], code: &mut [u8], relocs: &mut [u32]) {
-    let n = input::number(fd) as usize;
-    let m = input::number(fd) as usize;
-    input::bytes(fd, unit, 0, len);
+fn case(
+    out: &impl Print,
+    list: &mut impl Read,
+    len: usize,
+    unit: &mut [u8],
+    code: &mut [u8],
+    relocs: &mut [u32],
+) -> io::Result<()> {
+    let n = input::number(list)? as usize;
+    let m = input::number(list)? as usize;
+    input::bytes(list, unit, 0, len)?;
     if len <= unit.len() {
         if n <= code.len() {
             if m <= relocs.len() {
-                lowered(&unit[0..len], &mut code[0..n], &mut relocs[0..m]);
+                lowered(out, &unit[0..len], &mut code[0..n], &mut relocs[0..m])?;
             }
         }
     }
+    Ok(())
 }
 
 // One case after the other, until the list ends.
-fn cases(fd: i32, unit: &mut [u8], code: &mut [u8], relocs: &mut [u32]) {
-    let mut left: u32 = 100000;
-    while 0 < left {
-        let Next::Byte(low) = input::byte(fd) else {
-            return;
+fn cases(
+    out: &impl Print,
+    list: &mut impl Read,
+    unit: &mut [u8],
+    code: &mut [u8],
+    relocs: &mut [u32],
+) -> io::Result<()> {
+    for _ in 0..100000 {
+        let Next::Byte(low) = input::byte(list)? else {
+            return Ok(());
         };
-        case(
-            fd,
-            input::number_after(fd, low) as usize,
-            unit,
-            code,
-            relocs,
-        );
-        left -= 1;
+        let len = input::number_after(list, low)? as usize;
+        case(out, list, len, unit, code, relocs)?;
     }
+    Ok(())
 }
 
-pub(crate) fn replay() {
+pub(crate) fn replay(rt: &(impl Files + Print)) -> io::Result<()> {
     let mut unit = [0u8; 131072];
     let mut code = [0u8; 524288];
     let mut relocs = [0u32; 8192];
     cases(
-        os::open_read(b"lowering"),
+        rt,
+        &mut fs::open(rt, "lowering")?,
         &mut unit,
         &mut code,
         &mut relocs,
-    );
+    )
 }

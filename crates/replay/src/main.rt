@@ -9,9 +9,11 @@ mod output;
 mod records;
 mod units;
 
-fn main() {
-    units::replay();
-    records::replay();
-    codes::replay();
-    lowering::replay();
+use std::io;
+
+fn main(rt: HostRuntime) -> io::Result<()> {
+    units::replay(&rt)?;
+    records::replay(&rt)?;
+    codes::replay(&rt)?;
+    lowering::replay(&rt)
 }

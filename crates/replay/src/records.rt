@@ -4,19 +4,27 @@ use crate::{input, output};
 use ir::{Instruction, Opcode};
 use record::{Due, Head, Read, Record};
 use recordwriter::Written;
+use std::rt::Files;
+use std::{fs, io};
 
-fn written(record: Record, names: &[u8], maps: u16, buffer: &mut [u8]) {
+fn written(
+    out: &impl Print,
+    record: Record,
+    names: &[u8],
+    maps: u16,
+    buffer: &mut [u8],
+) -> io::Result<()> {
     match recordwriter::write_record(record, names, maps, buffer) {
         Written::Bytes(n) => {
-            output::word(b"wrote ");
-            output::decimal(n as u64);
-            output::word(b"\n");
+            output::word(out, b"wrote ")?;
+            output::decimal(out, n as u64)?;
+            output::word(out, b"\n")?;
         }
-        Written::Refused(f) => output::refused(recordwriter::refusal(f)),
+        Written::Refused(f) => output::refused(out, recordwriter::refusal(f))?,
     }
-    output::word(b"buffer ");
-    output::hex(buffer);
-    output::word(b"\n");
+    output::word(out, b"buffer ")?;
+    output::hex(out, buffer)?;
+    output::word(out, b"\n")
 }
 
 // An opcode with another map, which may be one that no unit has.
@@ -49,12 +57,17 @@ fn mapped(r: Record, map: u32) -> Record {
 }
 
 // An instruction or a terminator is read from the bytes of its record, in a unit of as many maps as there can be.
-fn inside(bytes: &[u8], map: u32, maps: u16, buffer: &mut [u8]) {
+fn inside(
+    out: &impl Print,
+    bytes: &[u8],
+    map: u32,
+    maps: u16,
+    buffer: &mut [u8],
+) -> io::Result<()> {
     let Read::Record(r, _) = record::read_record(bytes, 0, Due::Inside, 65535) else {
-        output::word(b"no record\n");
-        return;
+        return output::word(out, b"no record\n");
     };
-    written(mapped(r, map), bytes, maps, buffer);
+    written(out, mapped(r, map), bytes, maps, buffer)
 }
 
 // Where an opcode's map stands in its record: RingBufReserve's is the offset.
@@ -77,100 +90,157 @@ fn taken_map(bytes: &mut [u8], code: u8) -> u32 {
 }
 
 // The record of n payload bytes at the front of `bytes`, whose length and kind are put before it.
-fn framed(bytes: &mut [u8], n: u16, kind: u16, map: u32, maps: u16, buffer: &mut [u8]) {
+fn framed(
+    out: &impl Print,
+    bytes: &mut [u8],
+    n: u16,
+    kind: u16,
+    map: u32,
+    maps: u16,
+    buffer: &mut [u8],
+) -> io::Result<()> {
     wire::put_u16(bytes, 0, n);
     wire::put_u16(bytes, 2, kind);
     let end = 4 + (n as usize);
     if end <= bytes.len() {
-        inside(&bytes[0..end], map, maps, buffer);
+        inside(out, &bytes[0..end], map, maps, buffer)?;
     }
+    Ok(())
 }
 
-fn instruction_in(fd: i32, bytes: &mut [u8], maps: u16, buffer: &mut [u8]) {
-    input::bytes(fd, bytes, 4, 7);
-    input::bytes(fd, bytes, 12, 8);
+fn instruction_in(
+    out: &impl Print,
+    list: &mut impl io::Read,
+    bytes: &mut [u8],
+    maps: u16,
+    buffer: &mut [u8],
+) -> io::Result<()> {
+    input::bytes(list, bytes, 4, 7)?;
+    input::bytes(list, bytes, 12, 8)?;
     let code = wire::get_u8(bytes, 8);
     let operands = 9 * (wire::get_u8(bytes, 10) as u16);
-    input::bytes(fd, bytes, 20, operands as usize);
+    input::bytes(list, bytes, 20, operands as usize)?;
     let map = taken_map(bytes, code);
-    framed(bytes, 16 + operands, 4, map, maps, buffer);
+    framed(out, bytes, 16 + operands, 4, map, maps, buffer)
 }
 
-fn instruction(fd: i32, maps: u16, buffer: &mut [u8]) {
+fn instruction(
+    out: &impl Print,
+    list: &mut impl io::Read,
+    maps: u16,
+    buffer: &mut [u8],
+) -> io::Result<()> {
     let mut bytes = [0u8; 92];
-    instruction_in(fd, &mut bytes, maps, buffer);
+    instruction_in(out, list, &mut bytes, maps, buffer)
 }
 
-fn terminator_in(fd: i32, bytes: &mut [u8], maps: u16, buffer: &mut [u8]) {
-    input::bytes(fd, bytes, 4, 1);
+fn terminator_in(
+    out: &impl Print,
+    list: &mut impl io::Read,
+    bytes: &mut [u8],
+    maps: u16,
+    buffer: &mut [u8],
+) -> io::Result<()> {
+    input::bytes(list, bytes, 4, 1)?;
     match wire::get_u8(bytes, 4) {
         0 => {
-            input::bytes(fd, bytes, 5, 9);
-            framed(bytes, 10, 5, 0, maps, buffer);
+            input::bytes(list, bytes, 5, 9)?;
+            framed(out, bytes, 10, 5, 0, maps, buffer)
         }
         1 => {
-            input::bytes(fd, bytes, 5, 4);
-            framed(bytes, 5, 5, 0, maps, buffer);
+            input::bytes(list, bytes, 5, 4)?;
+            framed(out, bytes, 5, 5, 0, maps, buffer)
         }
         _ => {
-            input::bytes(fd, bytes, 5, 17);
-            framed(bytes, 18, 5, 0, maps, buffer);
+            input::bytes(list, bytes, 5, 17)?;
+            framed(out, bytes, 18, 5, 0, maps, buffer)
         }
     }
 }
 
-fn terminator(fd: i32, maps: u16, buffer: &mut [u8]) {
+fn terminator(
+    out: &impl Print,
+    list: &mut impl io::Read,
+    maps: u16,
+    buffer: &mut [u8],
+) -> io::Result<()> {
     let mut bytes = [0u8; 22];
-    terminator_in(fd, &mut bytes, maps, buffer);
+    terminator_in(out, list, &mut bytes, maps, buffer)
 }
 
-fn name(fd: i32, maps: u16, buffer: &mut [u8]) {
+fn name(
+    out: &impl Print,
+    list: &mut impl io::Read,
+    maps: u16,
+    buffer: &mut [u8],
+) -> io::Result<()> {
     let mut names = [0u8; 65540];
-    let len = input::number(fd) as usize;
-    input::bytes(fd, &mut names, 0, len);
-    written(Record::Map { start: 0, len: len }, &names, maps, buffer);
+    let len = input::number(list)? as usize;
+    input::bytes(list, &mut names, 0, len)?;
+    written(
+        out,
+        Record::Map { start: 0, len: len },
+        &names,
+        maps,
+        buffer,
+    )
 }
 
-fn head(fd: i32, maps: u16, buffer: &mut [u8]) {
-    let counts = input::number(fd);
+fn head(
+    out: &impl Print,
+    list: &mut impl io::Read,
+    maps: u16,
+    buffer: &mut [u8],
+) -> io::Result<()> {
+    let counts = input::number(list)?;
     let h = Head {
         edition: (counts % 65536) as u16,
         maps: (counts / 65536) as u16,
-        blocks: input::number(fd),
+        blocks: input::number(list)?,
     };
-    written(Record::Head(h), &[], maps, buffer);
+    written(out, Record::Head(h), &[], maps, buffer)
 }
 
-fn value(fd: i32, kind: u8, maps: u16, buffer: &mut [u8]) {
+fn value(
+    out: &impl Print,
+    list: &mut impl io::Read,
+    kind: u8,
+    maps: u16,
+    buffer: &mut [u8],
+) -> io::Result<()> {
     match kind {
-        1 => head(fd, maps, buffer),
-        2 => name(fd, maps, buffer),
-        3 => written(Record::Block(input::number(fd)), &[], maps, buffer),
-        4 => instruction(fd, maps, buffer),
-        _ => terminator(fd, maps, buffer),
+        1 => head(out, list, maps, buffer),
+        2 => name(out, list, maps, buffer),
+        3 => written(out, Record::Block(input::number(list)?), &[], maps, buffer),
+        4 => instruction(out, list, maps, buffer),
+        _ => terminator(out, list, maps, buffer),
     }
 }
 
-fn case(fd: i32, room: usize) {
-    let maps = input::number(fd);
-    let Next::Byte(kind) = input::byte(fd) else {
-        return;
+fn case(out: &impl Print, list: &mut impl io::Read, room: usize) -> io::Result<()> {
+    let maps = input::number(list)?;
+    let Next::Byte(kind) = input::byte(list)? else {
+        return Ok(());
     };
     let mut buffer = [170u8; 256];
     if room <= 256 {
-        value(fd, kind, (maps % 65536) as u16, &mut buffer[0..room]);
+        value(out, list, kind, (maps % 65536) as u16, &mut buffer[0..room])?;
     }
+    Ok(())
 }
 
 // One case after the other, until the list ends.
-pub(crate) fn replay() {
-    let fd = os::open_read(b"records");
-    let mut left: u32 = 100000;
-    while 0 < left {
-        let Next::Byte(low) = input::byte(fd) else {
-            return;
+fn cases(out: &impl Print, list: &mut impl io::Read) -> io::Result<()> {
+    for _ in 0..100000 {
+        let Next::Byte(low) = input::byte(list)? else {
+            return Ok(());
         };
-        case(fd, input::number_after(fd, low) as usize);
-        left -= 1;
+        let room = input::number_after(list, low)? as usize;
+        case(out, list, room)?;
     }
+    Ok(())
+}
+
+pub(crate) fn replay(rt: &(impl Files + Print)) -> io::Result<()> {
+    cases(rt, &mut fs::open(rt, "records")?)
 }
