@@ -1,6 +1,7 @@
 // The flow of a unit's blocks: which are emitted, and which block a target means.
 // An id is found at its place in a table; keys are sorted and searched only where some block's id is not told by its place.
 #![tactic(auto)]
+
 ghost use Rattle.std.specs.Prelude.{◌≡◌, true, List, ℕ, ◌+◌, ◌*◌, ◌≤◌, ◌<◌, eqb, length, take, get_or};
 ghost use Rattle.std.proofs.lemmas.List.Edits.{sets};
 ghost use Rattle.wire.specs.Pick.{pick};

@@ -1,5 +1,6 @@
 // One eBPF instruction: its fields, its 8 bytes, its opcodes.
 #![tactic(auto)]
+
 pub mod form;
 pub mod helper;
 

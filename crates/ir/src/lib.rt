@@ -1,5 +1,6 @@
 // A unit's instructions and terminators, as values. A map is a number: the place of its record among the maps.
 #![tactic(auto)]
+
 pub mod operands;
 
 use operands::Operands;

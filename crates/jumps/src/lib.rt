@@ -1,5 +1,6 @@
 // The refusals 18 and 19: where the jumps of the emitted blocks land, by tables over the blocks' numbers.
 #![tactic(auto)]
+
 ghost use Rattle.std.specs.Prelude.{◌≡◌, ◌-◌, get_or};
 ghost use Rattle.wire.specs.Pick.{pick};
 ghost use Rattle.layout.specs.Jumps.{distance, to, nowhere, on_target};

@@ -1,5 +1,6 @@
 // What an instruction or a terminator becomes.
 #![tactic(auto)]
+
 mod instruction;
 mod list;
 mod piece;

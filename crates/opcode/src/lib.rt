@@ -1,5 +1,6 @@
 // An instruction's opcode, from the four fields of its payload, and what a record's writer asks of one.
 #![tactic(auto)]
+
 pub mod asks;
 
 ghost use Rattle.std.specs.Prelude.{◌≡◌, get_or};

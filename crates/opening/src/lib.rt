@@ -1,5 +1,6 @@
 // The head and the maps of a unit.
 #![tactic(auto)]
+
 mod names;
 mod refused;
 mod signatures;

@@ -1,5 +1,6 @@
 // An operand's nine bytes, read and written, and the bytes of operands one after the other.
 #![tactic(auto)]
+
 ghost use Rattle.std.specs.Prelude.{◌≡◌, ◌+◌, ◌*◌, ◌≤◌, length};
 ghost use Rattle.wire.specs.Le.{store};
 ghost use Rattle.ir.specs.Operands.{list_of};

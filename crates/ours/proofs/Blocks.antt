@@ -126,7 +126,7 @@ module _ (c : Context) (cells : Cells c.frame) where
   blocks_narrow j (k ∷ ks) l e =
       let P = parts j k ks l e in
       subst Narrow (sym P.is)
-      (narrow_append (P.body ++ P.tail) P.rest (narrow_append P.body P.tail P.within.narrow (ending_narrow P.ending)) (blocks_narrow _ ks P.rest P.others))
+      (narrow_append (P.body ++ P.tail) P.rest (narrow_append P.body P.tail P.within.narrow (ending_narrow P.ending)) (blocks_narrow (scratch_through j k.instructions) ks P.rest P.others))
 
   -- ---- where they stand
 

@@ -4,7 +4,7 @@ use mathlib.Core.Bool.{true, false}
 use mathlib.Core.Logic.{◌⊎◌, inl, inr, ⊎_elim}
 use mathlib.Core.List.Memᴰ
 use mathlib.Core.List.{List, [], ◌∷◌, ◌++◌, Memᴰ}
-use Prim.Native.Nat.{ℕ, ◌^◌, ◌<◌}
+use Prim.Native.Nat.{ℕ, ◌+◌, ◌^◌, ◌<◌}
 use native.Mathlib.Decide.{ℕ_discrete}
 use native.Mathlib.Omega.{arith}
 use borrow.Author.Tests.{eq-eqb, ne_eqb, lt-ltb, le-ltb}
@@ -13,7 +13,7 @@ use lib.Signed.{mag}
 use Rattle.wire.specs.Range.{fits16}
 use Rattle.unitfile.specs.Unit.{BasicBlock}
 use Rattle.lower.specs.Op.{Op}
-use Rattle.layout.specs.Layout.{laid, Context, block, unit_ops, ops}
+use Rattle.layout.specs.Layout.{laid, Context, block, unit_ops, ops, scratch_through, slots}
 use Rattle.layout.specs.Jumps.{Start, starts_from, starts, to, nowhere, or_this, last_start, distance, Jump, jumps, Landing, lands, no_target, too_far, on_target, or_rest, landing}
 use Rattle.layout.specs.Code.{insns, code_bytes}
 use Rattle.shape.specs.Code.{at}
@@ -27,12 +27,12 @@ module _ (c : Context) (id : ℕ) where
   no_start : (j s : ℕ) (bs : List BasicBlock) → NoneHas bs id → last_start (starts_from c j s bs) id ≡ nowhere
   unfolding starts_from last_start or_this
   no_start j s [] n = refl
-  no_start j s (b ∷ bs) n = rw (no_start _ _ bs (λ k m. n k (Memᴰ.tail m)), ne_eqb b.id id (n b (Memᴰ.head refl)))
+  no_start j s (b ∷ bs) n = rw (no_start (scratch_through j b.instructions) (s + slots (block c j b)) bs (λ k m. n k (Memᴰ.tail m)), ne_eqb b.id id (n b (Memᴰ.head refl)))
 
   start_of : (j s : ℕ) (front : List BasicBlock) (b : BasicBlock) (back : List BasicBlock) → b.id ≡ id → NoneHas back id → last_start (starts_from c j s (front ++ (b ∷ back))) id ≡ to (begins_from c j s front)
   unfolding starts_from last_start or_this begins_from
   start_of j s [] b back e n = rw (no_start _ _ back n, eq-eqb b.id id e)
-  start_of j s (x ∷ front) b back e n = rw (start_of _ _ front b back e n)
+  start_of j s (x ∷ front) b back e n = rw (start_of (scratch_through j x.instructions) (s + slots (block c j x)) front b back e n)
 
   last_start_lem : (bs : List BasicBlock) (L : LastBlock bs id) → last_start (starts c bs) id ≡ to (begins c L.front)
   unfolding starts begins

@@ -107,7 +107,7 @@ starts_behind : (c : Context) (j s : ℕ) (bs : List BasicBlock) (x : Start) →
 unfolding starts_from
 starts_behind c j s [] x m = absurd (Memᴰ.not-nil m)
 starts_behind c j s (b ∷ bs) x m =
-    ⊎_elim (λ q. omega (arith, ap (λ (y : Start). y.slot) q)) (λ q. omega (arith, starts_behind c _ _ bs x q)) (Memᴰ.cases_cons m)
+    ⊎_elim (λ q. omega (arith, ap (λ (y : Start). y.slot) q)) (λ q. omega (arith, starts_behind c (scratch_through j b.instructions) (s + slotsIn (block c j b)) bs x q)) (Memᴰ.cases_cons m)
 
 behind_first : {x : Start} {xs : List Start} {a z : ℕ} → x.slot ≤ a → NoneBegins xs a z → NoneBegins (x ∷ xs) a z
 behind_first h n v m = ⊎_elim (λ q. inl (omega (arith, ap (λ (y : Start). y.slot) q))) (n v) (Memᴰ.cases_cons m)

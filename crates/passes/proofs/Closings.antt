@@ -7,6 +7,7 @@ use native.Mathlib.Omega.{arith}
 use lib.ListN.{length, get_or}
 use lib.Seq.{get_or-take}
 use Rattle.ir.specs.declared.Terminator.{Terminator}
+use Rattle.record.specs.Frame.{next_at}
 use Rattle.recordparts.specs.Terminator.{terminator_in}
 use Rattle.unitfile.specs.Unit.{BasicBlock, parse, read_unit}
 use Rattle.unitfile.specs.declared.Found.{Found}
@@ -29,7 +30,7 @@ module _ (b : List ℕ) where
   closings_stand : {place : ℕ} (bs : List BasicBlock) → Standing b place bs → map closes_at (endings bs) ≡ closings bs
   unfolding endings closings
   closings_stand [] s = refl
-  closings_stand (k ∷ ks) s = rw ((standing_head s).ends.value, closings_stand ks (standing_tail s))
+  closings_stand (k ∷ ks) s = rw ((standing_head s).ends.value, closings_stand {place = next_at b k.ending} ks (standing_tail s))
 
   read_at : (places xs : List ℕ) (k : ℕ) → ((i : ℕ) → i < length xs → get_or places (k + i) 0 ≡ get_or xs i 0) → closings_at b places k (length xs) ≡ map closes_at xs
   unfolding closings_at

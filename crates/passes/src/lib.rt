@@ -1,5 +1,6 @@
 // The passes over a unit's blocks that measure and write its code: definitions and laws. No code.
 #![tactic(auto)]
+
 use lower::Reason;
 
 // Slots and relocations, or the place of the record that is refused.

@@ -83,7 +83,7 @@ relaxes b x t d s top w out T K ln comes lacks (again l f ne) =
       less = omega (arith, fall);
     }
 
-pub relaxed_length : {t d s t' d' s' : List ℕ} {top w out top' : ℕ} → Relaxed t d s top w out t' d' s' top' → length t' ≡ length t
+pub relaxed_length : {t d s : List ℕ} {top w out : ℕ} {t' d' s' : List ℕ} {top' : ℕ} → Relaxed t d s top w out t' d' s' top' → length t' ≡ length t
 relaxed_length (past h) = refl
 relaxed_length (same l e) = refl
 relaxed_length (pushed l f ne) = simp length-set

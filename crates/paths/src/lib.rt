@@ -1,5 +1,6 @@
 // The registers readable on all paths through a code.
 #![tactic(auto)]
+
 mod node;
 mod work;
 

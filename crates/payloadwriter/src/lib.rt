@@ -1,5 +1,6 @@
 // The payloads of an instruction and of a terminator, written whole or not at all.
 #![tactic(auto)]
+
 ghost use Rattle.std.specs.Prelude.{◌≡◌, ◌+◌, ◌*◌, ◌≤◌, length};
 ghost use Rattle.wire.specs.Le.{store};
 ghost use Rattle.ir.specs.Operands.{list_of};

@@ -76,7 +76,7 @@ pub record OneAnswer : Type 0 where
   pub insn_insn_at : DecidesAnswer insn.insn_at.Reads.Post
   pub insn_put_insn : Decides insn.put_insn.Reads.Post (λ κ r (b, _). b.now)
   pub insn_decode : DecidesAnswer insn.decode.Reads.Post
-  pub insn_encode : Decides insn.encode.Reads.Post (λ κ r (_, (b, _)). r and (λ x. x.now) b)
+  pub insn_encode : Decides insn.encode.Reads.Post (λ κ r (_, (b, _)). r and b.now)
   pub insn_alu64_imm : DecidesAnswer insn.alu64_imm.Reads.Post
   pub insn_alu64_reg : DecidesAnswer insn.alu64_reg.Reads.Post
   pub insn_ldx_mem : DecidesAnswer insn.ldx_mem.Reads.Post
@@ -84,10 +84,10 @@ pub record OneAnswer : Type 0 where
   pub insn_form_of : DecidesAnswer insn.form.form_of.Reads.Post
   pub insn_opcode_of : DecidesAnswer insn.opcode_of.Reads.Post
   pub insn_helper_of : DecidesAnswer insn.helper.helper_of.Reads.Post
-  pub text_put_counts : Decides text.put_counts.Reads.Post (λ κ r (out, _). r and (λ x. x.now) out)
-  pub text_put_slot : Decides text.put_slot.Reads.Post (λ κ r (out, _). r and (λ x. x.now) out)
-  pub text_put_reloc : Decides text.put_reloc.Reads.Post (λ κ r (out, _). r and (λ x. x.now) out)
-  pub text_put_refused : Decides text.put_refused.Reads.Post (λ κ r (out, _). r and (λ x. x.now) out)
+  pub text_put_counts : Decides text.put_counts.Reads.Post (λ κ r (out, _). r and out.now)
+  pub text_put_slot : Decides text.put_slot.Reads.Post (λ κ r (out, _). r and out.now)
+  pub text_put_reloc : Decides text.put_reloc.Reads.Post (λ κ r (out, _). r and out.now)
+  pub text_put_refused : Decides text.put_refused.Reads.Post (λ κ r (out, _). r and out.now)
   pub opcode_operation : DecidesAnswer opcode.operation.Reads.Post
   pub opcode_small_of : DecidesAnswer opcode.small_of.Reads.Post
   pub opcode_opcode_of : DecidesAnswer opcode.opcode_of.Reads.Post
@@ -119,7 +119,7 @@ pub record OneAnswer : Type 0 where
   pub payloadwriter_terminator_size : DecidesAnswer payloadwriter.terminator_size.Reads.Post
   pub payloadwriter_put_terminator : Decides payloadwriter.put_terminator.Reads.Post (λ κ r (b, _). b.now)
   pub recordwriter_refusal : DecidesAnswer recordwriter.refusal.Reads.Post
-  pub recordwriter_write_record : Decides recordwriter.write_record.Reads.Post (λ κ r (_, (_, (_, (buffer, _)))). r and (λ x. x.now) buffer)
+  pub recordwriter_write_record : Decides recordwriter.write_record.Reads.Post (λ κ r (_, (_, (_, (buffer, _)))). r and buffer.now)
   pub opening_head_at : DecidesAnswer opening.head_at.Reads.Post
   pub opening_map_from : DecidesAnswer opening.map_from.Reads.Post
   pub opening_open_unit : DecidesAnswer opening.open_unit.Reads.Post
@@ -132,12 +132,12 @@ pub record OneAnswer : Type 0 where
   pub frame_index_at : DecidesAnswer frame.hint.index_at.Reads.Post
   pub frame_cell_at : DecidesAnswer frame.hint.cell_at.Reads.Post
   pub frame_put_hints : Decides frame.hint.put_hints.Reads.Post (λ κ r (_, (hints, _)). hints.now)
-  pub frame_insert : Decides frame.insert.Reads.Post (λ κ r (variables, _). r and (λ x. x.now) variables)
+  pub frame_insert : Decides frame.insert.Reads.Post (λ κ r (variables, _). r and variables.now)
   pub frame_fixed : DecidesAnswer frame.fixed.Reads.Post
   pub sort_sort : Decides sort.sort.Reads.Post (λ κ r (keys, _). keys.now)
-  pub flow_link : Decides flow.link.Reads.Post (λ κ r (_, (_, (_, (targets, (emitted, _))))). targets.now and (λ x. x.now) emitted)
-  pub survey_survey_unit : Decides survey.survey_unit.Reads.Post (λ κ r (_, (variables, (ids, (endings, _)))). r and (λ x. x.now) variables and (λ x. x.now) ids and (λ x. x.now) endings)
-  pub lower_lower_instruction : Decides lower.lower_instruction.Reads.Post (λ κ r (code, _). r and (λ x. x.now) code)
+  pub flow_link : Decides flow.link.Reads.Post (λ κ r (_, (_, (_, (targets, (emitted, _))))). targets.now and emitted.now)
+  pub survey_survey_unit : Decides survey.survey_unit.Reads.Post (λ κ r (_, (variables, (ids, (endings, _)))). r and variables.now and ids.now and endings.now)
+  pub lower_lower_instruction : Decides lower.lower_instruction.Reads.Post (λ κ r (code, _). r and code.now)
   pub lower_scratch_after : DecidesAnswer lower.scratch_after.Reads.Post
   pub lower_lower_terminator : DecidesAnswer lower.lower_terminator.Reads.Post
   pub lower_refused : DecidesAnswer lower.refused.Reads.Post
@@ -145,23 +145,23 @@ pub record OneAnswer : Type 0 where
   pub jumps_distance : DecidesAnswer jumps.distance.Reads.Post
   pub jumps_check_jumps : DecidesAnswer jumps.check_jumps.Reads.Post
   pub tracepoint_refusal : DecidesAnswer tracepoint.refusal.Reads.Post
-  pub tracepoint_compile_tracepoint : Decides tracepoint.compile_tracepoint.Reads.Post (λ κ r (_, (code, (relocs, _))). r and (λ x. x.now) code and (λ x. x.now) relocs)
+  pub tracepoint_compile_tracepoint : Decides tracepoint.compile_tracepoint.Reads.Post (λ κ r (_, (code, (relocs, _))). r and code.now and relocs.now)
   pub shape_length_ok : DecidesAnswer shape.length_ok.Reads.Post
   pub shape_instruction_at : DecidesAnswer shape.slot.instruction_at.Reads.Post
   pub shape_judge : DecidesAnswer shape.judge.Reads.Post
-  pub worklist_mark : Decides worklist.mark.Reads.Post (λ κ r (d, (s, _)). r and (λ x. x.now) d and (λ x. x.now) s)
-  pub worklist_take : Decides worklist.take.Reads.Post (λ κ r (d, (s, _)). r and (λ x. x.now) d and (λ x. x.now) s)
-  pub paths_analyse : Decides paths.analyse.Reads.Post (λ κ r (_, (table, _)). r and (λ x. x.now) table)
+  pub worklist_mark : Decides worklist.mark.Reads.Post (λ κ r (d, (s, _)). r and d.now and s.now)
+  pub worklist_take : Decides worklist.take.Reads.Post (λ κ r (d, (s, _)). r and d.now and s.now)
+  pub paths_analyse : Decides paths.analyse.Reads.Post (λ κ r (_, (table, _)). r and table.now)
   pub paths_read_mask : DecidesAnswer paths.read_mask.Reads.Post
   pub screen_refusal : DecidesAnswer screen.refusal.Reads.Post
-  pub screen_screen : Decides screen.screen.Reads.Post (λ κ r (_, (_, (table, _))). r and (λ x. x.now) table)
+  pub screen_screen : Decides screen.screen.Reads.Post (λ κ r (_, (_, (table, _))). r and table.now)
   pub recordfields_fields_of : DecidesAnswer recordfields.numbers.fields_of.Reads.Post
   pub recordfields_record_from : DecidesAnswer recordfields.meant.record_from.Reads.Post
-  pub shurtenbo_compile : Decides shurtenbo.units.shurtenbo_compile.Reads.Post (λ κ r (_, (code, (relocs, (answer, _)))). code.now and (λ x. x.now) relocs and (λ x. x.now) answer)
-  pub shurtenbo_screen : Decides shurtenbo.code.shurtenbo_screen.Reads.Post (λ κ r (_, (_, (table, (answer, _)))). table.now and (λ x. x.now) answer)
+  pub shurtenbo_compile : Decides shurtenbo.units.shurtenbo_compile.Reads.Post (λ κ r (_, (code, (relocs, (answer, _)))). code.now and relocs.now and answer.now)
+  pub shurtenbo_screen : Decides shurtenbo.code.shurtenbo_screen.Reads.Post (λ κ r (_, (_, (table, (answer, _)))). table.now and answer.now)
   pub shurtenbo_read_unit : Decides shurtenbo.units.shurtenbo_read_unit.Reads.Post (λ κ r (_, (answer, _)). answer.now)
   pub shurtenbo_map_name : Decides shurtenbo.units.shurtenbo_map_name.Reads.Post (λ κ r (_, (_, (answer, _))). answer.now)
-  pub shurtenbo_decode : Decides shurtenbo.insns.shurtenbo_decode.Reads.Post (λ κ r (_, (fields, (answer, _))). fields.now and (λ x. x.now) answer)
-  pub shurtenbo_encode : Decides shurtenbo.insns.shurtenbo_encode.Reads.Post (λ κ r (_, (_, (_, (_, (_, (bytes, (answer, _))))))). bytes.now and (λ x. x.now) answer)
-  pub shurtenbo_read_record : Decides shurtenbo.records.shurtenbo_read_record.Reads.Post (λ κ r (_, (_, (_, (_, (fields, (answer, _)))))). fields.now and (λ x. x.now) answer)
-  pub shurtenbo_write_record : Decides shurtenbo.records.shurtenbo_write_record.Reads.Post (λ κ r (_, (_, (_, (buffer, (answer, _))))). buffer.now and (λ x. x.now) answer)
+  pub shurtenbo_decode : Decides shurtenbo.insns.shurtenbo_decode.Reads.Post (λ κ r (_, (fields, (answer, _))). fields.now and answer.now)
+  pub shurtenbo_encode : Decides shurtenbo.insns.shurtenbo_encode.Reads.Post (λ κ r (_, (_, (_, (_, (_, (bytes, (answer, _))))))). bytes.now and answer.now)
+  pub shurtenbo_read_record : Decides shurtenbo.records.shurtenbo_read_record.Reads.Post (λ κ r (_, (_, (_, (_, (fields, (answer, _)))))). fields.now and answer.now)
+  pub shurtenbo_write_record : Decides shurtenbo.records.shurtenbo_write_record.Reads.Post (λ κ r (_, (_, (_, (buffer, (answer, _))))). buffer.now and answer.now)

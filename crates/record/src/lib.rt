@@ -1,5 +1,6 @@
 // One record of the unit file, read.
 #![tactic(auto)]
+
 pub mod instruction;
 pub mod payload;
 pub mod terminator;

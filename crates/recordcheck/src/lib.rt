@@ -1,5 +1,6 @@
 // A record of the unit file, checked with no value made of it: one function for each place that a record can be due at.
 #![tactic(auto)]
+
 mod instruction;
 mod terminator;
 

@@ -127,7 +127,7 @@ module _ (b : List ℕ) where
       let n = ap length e in
       let few : length (list_of l) < 8 = omega (arith, simp length-append at n, at_most_eight m) in
       rw (operand_read o f.0 (first (operand_bytes o) (operands_bytes os) 9 (operand_length o) h))
-      (operands_read (pushed l o) m os (e ∙ sym (append_assoc (list_of l) (o ∷ []) os) ∙ ap (λ (x : List Operand). x ++ os) (sym (pushed_last l o few))) f.1
+      (operands_read {i = i + 9} (pushed l o) m os (e ∙ sym (append_assoc (list_of l) (o ∷ []) os) ∙ ap (λ (x : List Operand). x ++ os) (sym (pushed_last l o few))) f.1
       (second (operand_bytes o) (operands_bytes os) 9 (operand_length o) h))
 
   -- ---- instructions

@@ -1,5 +1,6 @@
 // One record of the unit file, written.
 #![tactic(auto)]
+
 mod put;
 mod size;
 

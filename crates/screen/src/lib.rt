@@ -1,5 +1,6 @@
 // The screen: code from anyone, judged exactly.
 #![tactic(auto)]
+
 ghost use Rattle.std.specs.Prelude.{◌≡◌, ℕ, ◌<◌, length, get_or};
 ghost use Rattle.std.specs.Int.Count.{count_trailing_zeros};
 ghost use Rattle.shape.specs.Code.{slots};

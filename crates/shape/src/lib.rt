@@ -1,5 +1,6 @@
 // The shape of code from anyone: each instruction by itself, and the relocations.
 #![tactic(auto)]
+
 mod fields;
 mod instruction;
 mod pairs;

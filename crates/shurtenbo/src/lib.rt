@@ -2,6 +2,7 @@
 // Every call leaves three numbers in the array `answer`, which the caller lends for it alone: 0 and what the call tells, or a refusal's
 // number, place and value.
 #![tactic(auto)]
+
 mod answer;
 pub mod code;
 pub mod insns;

@@ -1,5 +1,6 @@
 // What an instruction takes, from the bytes of its payload: its slots and its map, or why it is refused. Its code is not made.
 #![tactic(auto)]
+
 mod part;
 
 ghost use Rattle.std.specs.Prelude.{false, ◌≡◌, get_or};

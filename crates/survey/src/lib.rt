@@ -1,5 +1,6 @@
 // A unit read whole and surveyed: its variables, and of each block its id and the place of its terminator.
 #![tactic(auto)]
+
 mod occurrences;
 mod pass;
 

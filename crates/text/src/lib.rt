@@ -1,5 +1,6 @@
 // Lines of text, put into a lent buffer. A line that does not lie whole in the buffer is not written, and the place after it is then the place it was to have.
 #![tactic(auto)]
+
 mod pieces;
 
 ghost use Rattle.std.specs.Prelude.{◌≡◌};

@@ -1,5 +1,6 @@
 // From a unit's bytes to instruction bytes and relocations.
 #![tactic(auto)]
+
 mod compile;
 mod context;
 mod measure;

@@ -6,7 +6,7 @@ use Prim.Native.Nat.{ℕ, zero, suc, ◌+◌, ◌<◌, ◌≤◌}
 use native.Mathlib.Nat.{add-zero, zero-add}
 use native.Mathlib.Omega.{arith}
 use borrow.Author.Tests.{lt-ltb, le-ltb, ltb-true, ltb-false}
-use denote.Ref.{MutBor}
+use denote.Ref.{Bor}
 use lib.Dec.{ltb}
 use lib.ListN.{length, get_or, take, length-append, get_or-eq_default}
 use Rattle.wire.specs.Pick.{pick}
@@ -139,12 +139,12 @@ refused_named (parsed u) k f =
 refused_named (refused g) k f = λ e. refl
 
 -- the part of a lent unit that is a map's name has the name's bytes
-named_part : (s : MutBor (List ℕ)) (k : ℕ) (p : MapPlace) → place_of s.now (parse s.now) k ≡ p → (part_at s p).bytes ≡ name_of (parse s.now) k
+named_part : (s : Bor (List ℕ)) (k : ℕ) (p : MapPlace) → place_of s.now (parse s.now) k ≡ p → (part_at s p).bytes ≡ name_of (parse s.now) k
 unfolding part_at
 named_part s k (P.At start len) e = sym (lying s.now k start len e).name_is
 named_part s k P.NoSuchMap e = sym (nothing_named (parse s.now) k (named_at_lem s.now _ k ∙ ap named_at e))
 named_part s k (P.Refused f) e = sym (refused_named (parse s.now) k f (named_at_lem s.now _ k ∙ ap named_at e))
 
-pub name_part_lem : (s : MutBor (List ℕ)) (k : ℕ) → (name_part s k).bytes ≡ name_of (parse s.now) k
+pub name_part_lem : (s : Bor (List ℕ)) (k : ℕ) → (name_part s k).bytes ≡ name_of (parse s.now) k
 unfolding name_part
 name_part_lem s k = named_part s k _ refl

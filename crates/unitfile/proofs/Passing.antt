@@ -73,7 +73,7 @@ module _ (found : Found) (b : List ℕ) (maps : ℕ) where
     inside_by (Re.Record r n) h kind next e t q =
         let k : kind_of r ≡ kind = cc in
         let z : n ≡ next = cc in
-        let d = inside_after _ r n (record_taken b at Du.Inside maps r n h).came in
+        let d = inside_after (at + 4) r n (record_taken b at Du.Inside maps r n h).came in
         rw (← z, ← q, ← k) (by_step (in_block at blocks) _ r (rw h (ap (go r) d)))
     inside_by (Re.Refused f) h kind next e t q = let z : ◌≡◌ {A = ℕ} 0 1 = cc in absurd (omega arith)
 
@@ -108,7 +108,7 @@ module _ (found : Found) (b : List ℕ) (maps : ℕ) where
     unfolding checked_of next_record on_record
     block_by_lem (Re.Record r n) h kind next e =
         let z : n ≡ next = cc in
-        let d = block_after _ r n (record_taken b at Du.Block maps r n h).came in
+        let d = block_after (at + 4) r n (record_taken b at Du.Block maps r n h).came in
         rw (← z) (by_step (at_block at (suc blocks)) _ r (rw (one_due, h) (ap (go r) d)))
     block_by_lem (Re.Refused f) h kind next e = let z : ◌≡◌ {A = ℕ} 0 1 = cc in absurd (omega arith)
 

@@ -1,5 +1,6 @@
 // The whole unit file.
 #![tactic(auto)]
+
 mod walk;
 
 ghost use Rattle.std.specs.Prelude.{◌≡◌};

@@ -1,5 +1,6 @@
 // Little-endian numbers in lent bytes. A number that does not lie whole in the bytes reads as 0 and is not written.
 #![tactic(auto)]
+
 pub mod number;
 pub mod range;
 pub mod refusal;

@@ -1,5 +1,6 @@
 // A set of slots below 131,072 in three levels of words: a bit for each slot, one for each word of those, one for each word of these.
 #![tactic(auto)]
+
 ghost use Rattle.std.specs.Prelude.{◌≡◌, ◌<◌, ◌≤◌, ◌^◌};
 ghost use Rattle.worklist.specs.Set.{marked_low, marked_mid, marked_top, lowest_bit, lead, taken_low, taken_mid, taken};
 

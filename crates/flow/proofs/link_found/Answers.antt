@@ -21,5 +21,8 @@ put_flags-requires c =
 pub returns : goal.returns
 unfolding linked_targets
 returns c =
-    let d = c.requires.0 in record { targets_after = c.put_numbers.ensures; emitted_after = flags_linked c.args.n c.args.ids.now c.args.counts.now c.args.targets.now c.args.emitted.now c.reach.new.marks d.count d.size c.requires.2
-          c.first_number-first.ensures c.put_numbers.ensures c.reach.ensures c.put_flags.ensures }
+    let d = c.requires.0 in record {
+      targets_after = c.put_numbers.ensures;
+      emitted_after = flags_linked c.args.n c.args.ids.now c.args.counts.now c.args.targets.now c.args.emitted.now c.reach.new.marks d.count d.size c.requires.2
+          c.first_number-first.ensures c.put_numbers.ensures c.reach.ensures c.put_flags.ensures;
+    }

@@ -6,6 +6,7 @@ use native.Mathlib.Nat.{sub-zero}
 use Rattle.jumps.specs.Landed.{or_next}
 use Rattle.jumps.proofs.Blocks.{on_emitted, on_silent, on_end_lem}
 use Rattle.jumps.proofs.check_jumps.Goals as goal
+use Rattle.jumps.proofs.check_jumps.Goals.{then-get_u8-eq1+in-Lands, else-get_u8-eq1}
 
 pub loop-k-init : goal.loop-k-init
 loop-k-init c = (omega arith, rw sub-zero)
@@ -34,10 +35,10 @@ loop-k-preserved c =
     let l = c.loop-k in
     let f = c.get_u8.ensures in (
       omega arith,
-      ⊎_elim
-          (λ w. sym (on_emitted _ _ _ _ _ _ c.args.n l.k f (omega arith) w.0.taken ∙ rw (← w.1.ensures, w.3.given.1)) ∙ l.invariant.1)
-          (λ w. sym (on_silent _ _ _ _ _ _ c.args.n l.k f (omega arith) w.left) ∙ l.invariant.1)
-          c.if-get_u8-eq1.branch,
+      elim c.if-get_u8-eq1.branch [
+        | then-get_u8-eq1+in-Lands w ↦ sym (on_emitted _ _ _ _ _ _ c.args.n l.k f (omega arith) w.if-get_u8-eq1.true ∙ rw (← w.land_block.ensures, w.in-Lands.is)) ∙ l.invariant.1
+        | else-get_u8-eq1 w ↦ sym (on_silent _ _ _ _ _ _ c.args.n l.k f (omega arith) w.if-get_u8-eq1.false) ∙ l.invariant.1
+      ],
     )
 
 pub returns : goal.returns

@@ -5,6 +5,7 @@ use Rattle.opening.specs.Names.{first_record}
 use Rattle.opening.specs.Places.{head_of}
 use Rattle.opening.specs.Inner.{refused_head}
 use Rattle.opening.proofs.Heads.{not_head}
+use borrow.Enum.Refused.{opened}
 use Rattle.opening.proofs.head_at.Goals as goal
 
 pub returns-then-s-gt262144 : goal.returns-then-s-gt262144
@@ -17,7 +18,7 @@ returns-in_default c = simp (le-leb _ _ c.if-s-gt262144.false, c.head.ensures, �
 
 pub returns-in_default-r : goal.returns-in_default-r
 unfolding first_record
-returns-in_default-r c = simp (le-leb _ _ c.if-s-gt262144.false, ← c.read_record-read.ensures, c.in-Record.is) (sym (not_head _ _ c.in_default-r.in_default-r-own.keys2))
+returns-in_default-r c = simp (le-leb _ _ c.if-s-gt262144.false, ← c.read_record-read.ensures, c.in-Record.is) (sym (not_head _ _ (opened c.in_default-r.in_default-r-own.keys2)))
 
 pub returns : goal.returns
 unfolding first_record head_of

@@ -26,4 +26,4 @@ solve-requires c =
 pub returns : goal.returns
 returns c =
     let q = c.solve in
-    ran c.args.code.now c.args.table.now (length c.args.code.now / 8 - 0) q.new.1.0 q.result (omega arith) (omega arith) (omega arith) (omega arith) q.ensures
+    ran c.args.code.now c.args.table.now (length c.args.code.now / 8 - 0) q.new.t q.result (omega arith) (omega arith) (omega arith) (omega arith) q.ensures

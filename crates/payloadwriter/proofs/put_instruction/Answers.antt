@@ -19,4 +19,4 @@ pub returns-else-lies : goal.returns-else-lies
 returns-else-lies c =
     let n = c.count in
     let out = leb-false (c.args.at + (16 + 9 * n.result)) (length c.args.b.now) (sym c.lies.ensures ∙ c.if-lies.false) in
-    sym (store_out c.args.b.now c.args.at (instruction_bytes c.args.result c.args.f (list_of c.args.list)) (omega (arith, out, instruction_length c.args.result c.args.f (list_of c.args.list), n.ensures)))
+    sym (store_out c.args.b.now c.args.at (instruction_bytes c.args.res c.args.f (list_of c.args.list)) (omega (arith, out, instruction_length c.args.res c.args.f (list_of c.args.list), n.ensures)))

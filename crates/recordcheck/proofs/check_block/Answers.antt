@@ -4,4 +4,4 @@ use Rattle.recordcheck.proofs.Checks.{block_checked}
 use Rattle.recordcheck.proofs.check_block.Goals as goal
 
 pub returns : goal.returns
-returns c = c.check_length.ensures ∙ block_checked _ _ maps
+returns c maps = c.check_length.ensures ∙ block_checked _ _ maps

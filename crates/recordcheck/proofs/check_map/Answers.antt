@@ -4,4 +4,4 @@ use Rattle.recordcheck.proofs.Checks.{map_checked}
 use Rattle.recordcheck.proofs.check_map.Goals as goal
 
 pub returns : goal.returns
-returns c = c.check_length.ensures ∙ map_checked _ _ maps
+returns c maps = c.check_length.ensures ∙ map_checked _ _ maps

@@ -3,6 +3,7 @@ use mathlib.Core.Path.{sym, ap, ◌∙◌}
 use Rattle.shape.specs.Shapes.{and_relocations, with_relocations}
 use Rattle.shape.proofs.Lengths.{length_slots}
 use Rattle.shape.proofs.Uses.{not_fine}
+use borrow.Enum.Refused.{opened}
 use Rattle.shape.proofs.judge_with.Goals as goal
 
 pub fill-requires : goal.fill-requires
@@ -12,7 +13,7 @@ pub first_fault-first-requires : goal.first_fault-first-requires
 first_fault-first-requires c = record { code_bound = length_slots _ c.requires.code_value; starts = c.fill.ensures }
 
 pub returns-in_default : goal.returns-in_default
-returns-in_default c =    not_fine c.args.code.now c.args.relocs.now c.first_fault-first.result c.in_default.in_default-own.keys2 ∙ ap (and_relocations c.args.code.now c.args.relocs.now) c.first_fault-first.ensures
+returns-in_default c = not_fine c.args.code.now c.args.relocs.now c.first_fault-first.result (opened c.in_default.in_default-own.keys2) ∙ ap (and_relocations c.args.code.now c.args.relocs.now) c.first_fault-first.ensures
 
 pub compared-r-requires : goal.compared-r-requires
 compared-r-requires c = length_slots _ c.requires.code_value

@@ -14,16 +14,16 @@ use Rattle.size.proofs.from_context.Goals as goal
 pub overflow_cast-offset : goal.overflow_cast-offset
 overflow_cast-offset c =
     let i = c.get_i32-offset in
-    let h = i.type-inv in
-    cast_fits w32 w64 i.result (record { sfits = i.type-inv }) (record { sfits = omega arith })
+    let h = i.type_inv in
+    cast_fits w32 w64 i.result (record { sfits = i.type_inv }) (record { sfits = omega arith })
 
 pub returns-then-fits16 : goal.returns-then-fits16
 unfolding of_offset
 returns-then-fits16 c =
     let p = c.args.payload.now in
     let i = c.get_i32-offset in
-    let h = i.type-inv in
-    let e = ap fits16 (sym (cast_is w32 w64 i.result (record { sfits = i.type-inv }) (record { sfits = omega arith }))) ∙ sym c.fits16.ensures ∙ c.if-fits16.true in
+    let h = i.type_inv in
+    let e = ap fits16 (sym (cast_is w32 w64 i.result (record { sfits = i.type_inv }) (record { sfits = omega arith }))) ∙ sym c.fits16.ensures ∙ c.if-fits16.true in
     rw (← from_context_lem p _ _, ← c.get_u8-size.ensures, ← c.ldx_mem.ensures, c.in-Code.is, ← i.ensures, e) c.takes.ensures
 
 pub returns-else-fits16 : goal.returns-else-fits16
@@ -31,9 +31,9 @@ unfolding held takes of_offset
 returns-else-fits16 c =
     let p = c.args.payload.now in
     let i = c.get_i32-offset in
-    let h = i.type-inv in
-    let e = ap fits16 (sym (cast_is w32 w64 i.result (record { sfits = i.type-inv }) (record { sfits = omega arith }))) ∙ sym c.fits16.ensures ∙ c.if-fits16.false in
-    rw (← from_context_lem p _ _, ← c.get_u8-size.ensures, ← c.ldx_mem.ensures, c.in-Code.is, ← i.ensures, e) (c.refused.ensures ∙ simp (back w32 i.result i.type-inv))
+    let h = i.type_inv in
+    let e = ap fits16 (sym (cast_is w32 w64 i.result (record { sfits = i.type_inv }) (record { sfits = omega arith }))) ∙ sym c.fits16.ensures ∙ c.if-fits16.false in
+    rw (← from_context_lem p _ _, ← c.get_u8-size.ensures, ← c.ldx_mem.ensures, c.in-Code.is, ← i.ensures, e) (c.refused.ensures ∙ simp (back w32 i.result i.type_inv))
 
 pub returns-in-Unsupported : goal.returns-in-Unsupported
 unfolding held takes of_offset

@@ -9,7 +9,7 @@ survey_blocks-requires c = record { unit_value = sym c.read_unit.ensures ∙ c.i
 pub returns-in-Unit : goal.returns-in-Unit
 returns-in-Unit c =
     let e = sym c.read_unit.ensures ∙ c.in-Unit.is in
-    (c.survey_blocks.ensures.value ∙ unit_answer _ _ e, c.survey_blocks.ensures.variables_after)
+    record { value = c.survey_blocks.ensures.value ∙ unit_answer _ _ e; variables_after = c.survey_blocks.ensures.variables_after; ids_after = c.survey_blocks.ensures.ids_after; endings_after = c.survey_blocks.ensures.endings_after }
 
 pub returns-in-Refused : goal.returns-in-Refused
 returns-in-Refused c =

@@ -10,7 +10,7 @@ compile_one-requires c = blocks_most c.args.unit.now 1 (omega (arith, c.get_u32-
 pub returns-then-blocks-le1 : goal.returns-then-blocks-le1
 returns-then-blocks-le1 c =
     let shown = compiles _ _ _ _ _ c.compile_one.ensures in
-    record { value = shown.0; code_after = shown.1; relocs_after = shown.2 }
+    record { value = shown.0; code_after = shown.1.0; relocs_after = shown.1.1 }
 
 pub compile_few-requires : goal.compile_few-requires
 compile_few-requires c = blocks_most c.args.unit.now 16 (omega (arith, c.get_u32-blocks.ensures, c.if-blocks-le16.true))
@@ -18,9 +18,9 @@ compile_few-requires c = blocks_most c.args.unit.now 16 (omega (arith, c.get_u32
 pub returns-then-blocks-le16 : goal.returns-then-blocks-le16
 returns-then-blocks-le16 c =
     let shown = compiles _ _ _ _ _ c.compile_few.ensures in
-    record { value = shown.0; code_after = shown.1; relocs_after = shown.2 }
+    record { value = shown.0; code_after = shown.1.0; relocs_after = shown.1.1 }
 
 pub returns : goal.returns
 returns c =
     let shown = compiles _ _ _ _ _ c.compile_many.ensures in
-    record { value = shown.0; code_after = shown.1; relocs_after = shown.2 }
+    record { value = shown.0; code_after = shown.1.0; relocs_after = shown.1.1 }

@@ -1,4 +1,5 @@
 -- `node_of` is what the analysis takes from an instruction.
+use native.Mathlib.Omega.{arith}
 use mir.Syntax.{w16}
 use Rattle.wire.proofs.Sign.{back}
 use Rattle.paths.specs.Mask.{node_of}
@@ -26,8 +27,8 @@ returns-in-Calls c = rw c.in-Calls.is
 
 pub returns-in-Jumps : goal.returns-in-Jumps
 unfolding node_of
-returns-in-Jumps c = rw (c.landing_at.ensures, back w16 c.args.i.off c.type_inv.i.1.1.1.0.1, c.in-Jumps.is)
+returns-in-Jumps c = rw (c.landing_at.ensures, back w16 c.args.i.off (omega arith), c.in-Jumps.is)
 
 pub returns-in-Branches : goal.returns-in-Branches
 unfolding node_of
-returns-in-Branches c = rw (c.landing_at-in-Branches.ensures, back w16 c.args.i.off c.type_inv.i.1.1.1.0.1, c.in-Branches.is)
+returns-in-Branches c = rw (c.landing_at-in-Branches.ensures, back w16 c.args.i.off (omega arith), c.in-Branches.is)

@@ -1,4 +1,5 @@
 -- `reads_of` goes by the form.
+use native.Mathlib.Omega.{arith}
 use mir.Syntax.{w32}
 use Rattle.wire.proofs.Sign.{back}
 use Rattle.paths.specs.Registers.{reads}
@@ -56,7 +57,7 @@ returns-in-JneImm c = rw (c.register-dst.ensures, c.in-JneImm.is)
 
 pub returns-in-Call : goal.returns-in-Call
 unfolding reads
-returns-in-Call c = rw (c.arguments_of.ensures, back w32 c.args.i.imm c.type_inv.i.1.1.1.1.0.1, c.in-Call.is)
+returns-in-Call c = rw (c.arguments_of.ensures, back w32 c.args.i.imm (omega arith), c.in-Call.is)
 
 pub returns-in-Exit : goal.returns-in-Exit
 unfolding reads mask

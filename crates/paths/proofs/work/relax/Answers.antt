@@ -3,6 +3,7 @@ use Prim.Native.Nat.{◌%◌}
 use native.Mathlib.Omega.{arith}
 use lib.Bits.{and_le_l}
 use lib.ListN.{get_or}
+use Rattle.paths.specs.Work.{Relaxed.past, Relaxed.same, Relaxed.pushed, Relaxed.again}
 use Rattle.paths.proofs.work.relax.Goals as goal
 
 pub returns-then-new-old : goal.returns-then-new-old

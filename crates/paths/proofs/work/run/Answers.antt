@@ -13,7 +13,7 @@ pub loop-top-smaller : goal.loop-top-smaller
 loop-top-smaller c = c.turn-top.ensures.result_bound
 
 pub loop-top-preserved : goal.loop-top-preserved
-loop-top-preserved c = let Q = c.turn-top in (Q.auto.1.0 ∙ c.loop-top.invariant.0, Q.ensures.0)
+loop-top-preserved c = (c.turn-top.auto.t ∙ c.loop-top.invariant.0, c.turn-top.ensures.work_2)
 
 pub shape_of-t : goal.shape_of-t
 shape_of-t c = c.loop-top.invariant.0

@@ -31,7 +31,7 @@ returns-then-number-gt4294967295 c = rw (lt-ltb c.args.code 256 (omega arith), l
 pub overflow_cast-z : goal.overflow_cast-z
 overflow_cast-z c =
     let wide : SFits w64 c.sign64-z.result = record { sfits = c.sign64-z.type_inv } in
-    let fits_is : c.fits32.result ≡ fits32 c.sign64-z.result = let z = c.sign64-z in c.fits32.ensures ∙ ap fits32 (back w64 z.result z.type-inv) in
+    let fits_is : c.fits32.result ≡ fits32 c.sign64-z.result = let z = c.sign64-z in c.fits32.ensures ∙ ap fits32 (back w64 z.result z.type_inv) in
     let inside : fits32 c.sign64-z.result ≡ true = sym fits_is ∙ c.if-fits32.true in
     cast_fits w64 w32 c.sign64-z.result wide (in32 _ inside)
 
@@ -39,7 +39,7 @@ pub returns-then-fits32 : goal.returns-then-fits32
 unfolding opcode_from
 returns-then-fits32 c =
     let wide : SFits w64 c.sign64-z.result = record { sfits = c.sign64-z.type_inv } in
-    let fits_is : c.fits32.result ≡ fits32 c.sign64-z.result = let z = c.sign64-z in c.fits32.ensures ∙ ap fits32 (back w64 z.result z.type-inv) in
+    let fits_is : c.fits32.result ≡ fits32 c.sign64-z.result = let z = c.sign64-z in c.fits32.ensures ∙ ap fits32 (back w64 z.result z.type_inv) in
     let inside : fits32 c.sign64-z.result ≡ true = sym fits_is ∙ c.if-fits32.true in
     c.opcode_of.ensures
     ∙ rw (cast_is w64 w32 c.sign64-z.result wide (in32 _ inside), lt-ltb c.args.code 256 (omega arith), lt-ltb c.args.small 256 (omega arith), ← c.sign64-z.ensures, inside, lt-ltb c.args.number 4294967296 (omega arith))
@@ -47,5 +47,5 @@ returns-then-fits32 c =
 pub returns : goal.returns
 unfolding opcode_from
 returns c =
-    let fits_is : c.fits32.result ≡ fits32 c.sign64-z.result = let z = c.sign64-z in c.fits32.ensures ∙ ap fits32 (back w64 z.result z.type-inv) in
+    let fits_is : c.fits32.result ≡ fits32 c.sign64-z.result = let z = c.sign64-z in c.fits32.ensures ∙ ap fits32 (back w64 z.result z.type_inv) in
     rw (lt-ltb c.args.code 256 (omega arith), lt-ltb c.args.small 256 (omega arith), ← c.sign64-z.ensures, sym fits_is ∙ c.if-fits32.false)

@@ -8,7 +8,7 @@ use Rattle.recordfields.proofs.Bits.{widens, widened}
 use Rattle.recordfields.proofs.numbers.instruction_fields.Goals as goal
 
 pub overflow_cast-f-3 : goal.overflow_cast-f-3
-overflow_cast-f-3 c = widens c.fields_of-f.result.offset (omega (arith, c.type_inv.f))
+overflow_cast-f-3 c = widens c.fields_of-f.result.offset (omega arith)
 
 pub put_operands-requires : goal.put_operands-requires
 unfolding padded
@@ -19,4 +19,4 @@ unfolding padded instruction_numbers
 returns c =
     let f = c.fields_of-f in
     c.put_operands.ensures
-    ∙ rw (← f.ensures, c.padded-fields.ensures, c.bits64.ensures, widened f.result.offset (omega (arith, c.type_inv.f)), c.count-count.ensures)
+    ∙ rw (← f.ensures, c.padded-fields.ensures, c.bits64.ensures, widened f.result.offset (omega arith), c.count-count.ensures)

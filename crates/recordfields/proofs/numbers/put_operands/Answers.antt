@@ -65,7 +65,7 @@ pub loop-o-preserved : goal.loop-o-preserved
 loop-o-preserved c =
     let first_there : first_of c.loop-o.left ≡ Is c.in-Is.o = sym c.first.ensures ∙ c.in-Is.is in
     let one_more_lem : length (list_of c.loop-o.left) ≡ suc (length (list_of (rest_of c.loop-o.left))) = ap length (first_is _ _ first_there) in
-       let l = c.loop-o in
+    let l = c.loop-o in
     let o = c.in-Is.o in
     let n = one_more_lem in
     let m = pair_length l.fields l.i (tag_of o) (l.i + 1) (value_of o) in

@@ -14,8 +14,8 @@ pub put_name-requires : goal.put_name-requires
 unfolding valid payload_bytes
 put_name-requires c =
     let names = c.args.names.now in
-    let m = c.value-in-Map-1.given in
-    let n = name_told m.0.0 m.0.1.0 (length names) (rw m.1 at c.requires.value_value) in record { len_in_bounds = n.0; len_in_bounds_2 = omega (arith, part_length m.0.1.0 m.0.0 names n.0, rw m.1 at c.requires.value_in_bounds) }
+    let m = c.in-Map in
+    let n = name_told m.start m.len (length names) (rw m.is at c.requires.value_value) in record { len_in_bounds = n.0; len_in_bounds_2 = omega (arith, part_length m.len m.start names n.0, rw m.is at c.requires.value_in_bounds) }
 
 pub returns-in-Head : goal.returns-in-Head
 unfolding payload_bytes

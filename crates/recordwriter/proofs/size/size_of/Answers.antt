@@ -19,8 +19,8 @@ returns-then-head_ok c = rw (c.in-Head.is, ← c.head_ok.ensures, c.if-head_ok.t
 
 pub overflow_cast-result : goal.overflow_cast-result
 overflow_cast-result c =
-    let m = c.value-in-Map-1.given.0 in
-    let n = (name_told m.0 m.1.0 (length c.args.names.now) (sym c.name_ok.ensures ∙ c.if-name_ok.true)).1 in
+    let m = c.in-Map in
+    let n = (name_told m.start m.len (length c.args.names.now) (sym c.name_ok.ensures ∙ c.if-name_ok.true)).1 in
     omega (arith, n)
 
 pub returns-then-name_ok : goal.returns-then-name_ok

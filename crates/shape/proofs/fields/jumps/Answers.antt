@@ -4,6 +4,7 @@ use mathlib.Core.Bool.{true, false}
 use mathlib.Core.List.{[], ◌∷◌}
 use Rattle.shape.specs.Fields.{uses}
 use Rattle.shape.proofs.Uses.{by_number}
+use borrow.Enum.Refused.{opened}
 use Rattle.shape.proofs.fields.jumps.Goals as goal
 
 pub returns-in-Ja : goal.returns-in-Ja
@@ -12,4 +13,4 @@ returns-in-Ja c = by_number 5 true (8 ∷ 9 ∷ 10 ∷ []) c.args.f refl c.in-Ja
 
 pub returns-in_default : goal.returns-in_default
 unfolding uses
-returns-in_default c = by_number 5 false (0 ∷ 1 ∷ 2 ∷ 3 ∷ 4 ∷ 5 ∷ 6 ∷ 7 ∷ 11 ∷ 12 ∷ []) c.args.f refl c.in_default.in_default-own.keys2
+returns-in_default c = by_number 5 false (0 ∷ 1 ∷ 2 ∷ 3 ∷ 4 ∷ 5 ∷ 6 ∷ 7 ∷ 11 ∷ 12 ∷ []) c.args.f refl (opened c.in_default.in_default-own.keys2)

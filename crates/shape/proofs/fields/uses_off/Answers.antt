@@ -4,6 +4,7 @@ use mathlib.Core.Bool.{true, false}
 use mathlib.Core.List.{[], ◌∷◌}
 use Rattle.shape.specs.Fields.{uses}
 use Rattle.shape.proofs.Uses.{by_number}
+use borrow.Enum.Refused.{opened}
 use Rattle.shape.proofs.fields.uses_off.Goals as goal
 
 pub returns-in-NoForm : goal.returns-in-NoForm
@@ -12,4 +13,4 @@ returns-in-NoForm c = by_number 2 true (0 ∷ 2 ∷ 3 ∷ 8 ∷ 9 ∷ 10 ∷ [])
 
 pub returns-in_default : goal.returns-in_default
 unfolding uses
-returns-in_default c = by_number 2 false (1 ∷ 4 ∷ 5 ∷ 6 ∷ 7 ∷ 11 ∷ 12 ∷ []) c.args.f refl c.in_default.in_default-own.keys2
+returns-in_default c = by_number 2 false (1 ∷ 4 ∷ 5 ∷ 6 ∷ 7 ∷ 11 ∷ 12 ∷ []) c.args.f refl (opened c.in_default.in_default-own.keys2)

@@ -5,6 +5,7 @@ use Rattle.shape.specs.Code.{slots}
 use Rattle.shape.proofs.Starts.{after_more}
 use Rattle.shape.proofs.Uses.{first_fault}
 use Rattle.shape.proofs.Passes.{going_all, going_on, going_fault, going_end}
+use borrow.Enum.Refused.{opened}
 use Rattle.shape.proofs.instruction.first_fault.Goals as goal
 
 pub loop-s-init : goal.loop-s-init
@@ -17,7 +18,7 @@ shape_at-f-requires c = record { s_bound = (omega (arith, c.requires.code_bound)
 pub returns-in_default : goal.returns-in_default
 unfolding slots
 returns-in_default c = let l = c.loop-s in
-    sym (first_fault l.s c.shape_at-f.result _ c.in_default.in_default-own.keys2) ∙ going_fault _ l.s l.invariant c.loop-s-test.true _ (sym c.shape_at-f.ensures)
+    sym (first_fault l.s c.shape_at-f.result _ (opened c.in_default.in_default-own.keys2)) ∙ going_fault _ l.s l.invariant c.loop-s-test.true _ (sym c.shape_at-f.ensures)
 
 pub next-s-requires : goal.next-s-requires
 unfolding slots

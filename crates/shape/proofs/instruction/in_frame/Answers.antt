@@ -18,7 +18,7 @@ pub overflow_add-below : goal.overflow_add-below
 overflow_add-below c = record { fits = omega (arith, (under_is c.args.off c.ranges.off c.if-off-lt0.true).1) }
 
 pub returns-then-off-lt0 : goal.returns-then-off-lt0
-returns-then-off-lt0 c =    let l = under_is c.args.off c.ranges.off c.if-off-lt0.true in
+returns-then-off-lt0 c = let l = under_is c.args.off c.ranges.off c.if-off-lt0.true in
     rw c.bytes_of-w.ensures.0 (sym (frame_below c.args.off (under c.args.off) (width c.args.s) l.0))
 
 pub returns : goal.returns

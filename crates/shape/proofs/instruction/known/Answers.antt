@@ -1,4 +1,5 @@
 -- `known` is rule 32.
+use native.Mathlib.Omega.{arith}
 use mathlib.Core.Path.{ap, ◌∙◌}
 use lib.IntN.{ℤ}
 use mir.Syntax.{w32}
@@ -8,6 +9,7 @@ use Rattle.insn.specs.declared.Insn.{Insn}
 use Rattle.shape.specs.Fields.{uses}
 use Rattle.shape.specs.Shape.{known}
 use Rattle.shape.proofs.Uses.{known_plain}
+use borrow.Enum.Refused.{opened}
 use Rattle.shape.proofs.instruction.known.Goals as goal
 
 pub returns-in-NoForm : goal.returns-in-NoForm
@@ -20,7 +22,7 @@ returns-in-WideLoad c = rw c.in-WideLoad.is c.wide_ok.ensures
 
 pub returns-in-Call : goal.returns-in-Call
 unfolding known uses
-returns-in-Call c =    rw c.in-Call.is (c.is_helper.ensures ∙ ap (λ (z : ℤ). is_helper (helper_of z)) (back w32 c.args.i.imm c.type_inv.i.1.1.1.1.0.1) ∙ ap (λ (i : Insn). is_helper (helper_of i.imm)) c.requires.i_value)
+returns-in-Call c = rw c.in-Call.is (c.is_helper.ensures ∙ ap (λ (z : ℤ). is_helper (helper_of z)) (back w32 c.args.i.imm (omega arith)) ∙ ap (λ (i : Insn). is_helper (helper_of i.imm)) c.requires.i_value)
 
 pub returns-in_default : goal.returns-in_default
-returns-in_default c = known_plain _ _ c.args.f c.in_default.in_default-own.keys4
+returns-in_default c = known_plain _ _ c.args.f (opened c.in_default.in_default-own.keys4)

@@ -1,4 +1,5 @@
 -- `shape_at` reads the instruction and tries the rules.
+use native.Mathlib.Omega.{arith}
 use mathlib.Core.Path.{◌≡◌, sym}
 use mathlib.Core.List.{List}
 use Prim.Native.Nat.{ℕ}
@@ -23,6 +24,6 @@ known-requires c = record { s_bound = c.requires.s_bound.0; i_value = c.instruct
 
 pub returns : goal.returns
 unfolding shape_of
-returns c =    let off = back w16 c.instruction_at-i.result.off c.type_inv.i.1.1.1.0.1 in
+returns c = let off = back w16 c.instruction_at-i.result.off (omega arith) in
     rw (c.first_broken.ensures, implies_or c.jumps.result c.target_ok.result, c.jumps.ensures, c.target_ok.ensures, c.access_ok.ensures, c.unused_zero.ensures, c.registers_ok.ensures, c.known.ensures, off)
     (sym (by_form c.args.code.now c.args.s c.instruction_at-i.ensures c.form_of-f.ensures))

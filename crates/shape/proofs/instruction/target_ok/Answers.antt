@@ -22,7 +22,7 @@ pub returns-then-t-lt0 : goal.returns-then-t-lt0
 returns-then-t-lt0 c = let e = target_is c.args.s c.args.off c.requires.s_bound.0 c.ranges.off in sym (no_start _ _ (rw e at c.if-t-lt0.true))
 
 pub overflow_cast-u : goal.overflow_cast-u
-overflow_cast-u c =    let K = not_negative w64 (sum c.args.s c.args.off) (sum_fits c.args.s c.args.off c.requires.s_bound.0 c.ranges.off) c.if-t-lt0.false in
+overflow_cast-u c = let K = not_negative w64 (sum c.args.s c.args.off) (sum_fits c.args.s c.args.off c.requires.s_bound.0 c.ranges.off) c.if-t-lt0.false in
     (K.sign, K.small)
 
 pub contains-requires : goal.contains-requires
@@ -31,10 +31,10 @@ contains-requires c = omega (arith, c.requires.s_bound.1)
 
 pub returns-then-u-code : goal.returns-then-u-code
 unfolding slots
-returns-then-u-code c =    let e = target_is c.args.s c.args.off c.requires.s_bound.0 c.ranges.off in
+returns-then-u-code c = let e = target_is c.args.s c.args.off c.requires.s_bound.0 c.ranges.off in
     rw (← e) (c.contains.ensures ∙ c.requires.starts.at _ c.if-u-code.true ∙ sym (at_start_lem _ _ c.if-t-lt0.false ∙ rw (lt-ltb _ _ c.if-u-code.true)))
 
 pub returns : goal.returns
 unfolding slots
-returns c =    let e = target_is c.args.s c.args.off c.requires.s_bound.0 c.ranges.off in
+returns c = let e = target_is c.args.s c.args.off c.requires.s_bound.0 c.ranges.off in
     rw (← e) (sym (at_start_lem _ _ c.if-t-lt0.false ∙ rw (le-ltb _ _ c.if-u-code.false)))

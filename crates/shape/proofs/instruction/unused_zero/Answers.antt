@@ -1,4 +1,5 @@
 -- `unused_zero` is rule 34.
+use native.Mathlib.Omega.{arith}
 use mir.Val.{of_z}
 use lib.Dec.{eqb}
 use mir.Syntax.{w16, w32}
@@ -10,4 +11,4 @@ use Rattle.shape.proofs.instruction.unused_zero.Goals as goal
 pub returns : goal.returns
 unfolding unused_zero
 returns c = let i = c.args.i in
-    rw (or_unused c.uses_dst.result (eqb i.dst 0), or_unused c.uses_src.result (eqb i.src 0), or_unused c.uses_off.result (eqb (of_z w16 i.off) 0), or_unused c.uses_imm.result (eqb (of_z w32 i.imm) 0), c.uses_imm.ensures, c.uses_off.ensures, c.uses_src.ensures, c.uses_dst.ensures, zero_bits w16 i.off (record { sfits = c.type_inv.i.1.1.1.0.1 }), zero_bits w32 i.imm (record { sfits = c.struct_told-2-1.given.1.1.1.1.0.1 }))
+    rw (or_unused c.uses_dst.result (eqb i.dst 0), or_unused c.uses_src.result (eqb i.src 0), or_unused c.uses_off.result (eqb (of_z w16 i.off) 0), or_unused c.uses_imm.result (eqb (of_z w32 i.imm) 0), c.uses_imm.ensures, c.uses_off.ensures, c.uses_src.ensures, c.uses_dst.ensures, zero_bits w16 i.off (record { sfits = omega arith }), zero_bits w32 i.imm (record { sfits = omega arith }))

@@ -11,9 +11,9 @@ use Rattle.shape.proofs.instruction.wide_ok.Goals as goal
 
 pub returns-then-s-code : goal.returns-then-s-code
 unfolding known slots
-returns-then-s-code c =    let i = c.args.i in
+returns-then-s-code c = let i = c.args.i in
     let l : suc c.args.s < slots c.args.code.now = omega arith in
-    rw (lt-ltb _ _ l, zero_bits w32 i.imm (record { sfits = c.struct_told-1.given.1.1.1.1.0.1 }), c.all_zero.ensures, c.instruction_at-second.ensures, c.requires.i_value, add-one)
+    rw (lt-ltb _ _ l, zero_bits w32 i.imm (record { sfits = omega arith }), c.all_zero.ensures, c.instruction_at-second.ensures, c.requires.i_value, add-one)
 
 pub returns : goal.returns
 unfolding known slots

@@ -17,12 +17,12 @@ overflow_cast-relocs c = omega (arith, c.type_inv.relocs c.args.k)
 
 pub returns-then-relocs-k-eq1 : goal.returns-then-relocs-k-eq1
 unfolding pair_at
-returns-then-relocs-k-eq1 c =    let l : length c.args.relocs.now ≤ suc c.args.k = omega arith in
+returns-then-relocs-k-eq1 c = let l : length c.args.relocs.now ≤ suc c.args.k = omega arith in
     simp (add-one, lt-leb _ _ c.if-relocs-k.false, sym c.is_offset.ensures ∙ c.if-is_offset.true, le-leb _ _ l)
 
 pub returns-then-is_offset : goal.returns-then-is_offset
 unfolding pair_at
-returns-then-is_offset c =    let l : suc c.args.k < length c.args.relocs.now = omega (arith, c.if-relocs-k-eq1.false) in
+returns-then-is_offset c = let l : suc c.args.k < length c.args.relocs.now = omega (arith, c.if-relocs-k-eq1.false) in
     simp (lt-leb _ _ c.if-relocs-k.false, sym c.is_offset.ensures ∙ c.if-is_offset.true, lt-leb _ _ l)
 
 pub returns : goal.returns

@@ -23,7 +23,7 @@ loop-s-smaller c = let l = c.loop-s in
 
 pub loop-s-preserved : goal.loop-s-preserved
 unfolding slots
-loop-s-preserved c =    let l = c.loop-s in
+loop-s-preserved c = let l = c.loop-s in
     let h : l.s < 131072 = omega (arith, c.requires.code_bound) in
     rw (c.next-s.ensures, c.insert.ensures) (filled_more c.args.code.now l.set l.s h l.invariant)
 

@@ -7,4 +7,4 @@ use Rattle.shurtenbo.proofs.answer.refused.Goals as goal
 
 pub returns : goal.returns
 unfolding numbers_of
-returns c = rw (c.bits64.ensures, back w64 c.args.r.value (omega (arith, c.type_inv.r)))
+returns c = rw (c.bits64.ensures, back w64 c.args.r.value (omega arith))

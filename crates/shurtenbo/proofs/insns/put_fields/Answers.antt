@@ -7,11 +7,11 @@ use Rattle.shurtenbo.proofs.Signed.{widens, widened}
 use Rattle.shurtenbo.proofs.insns.put_fields.Goals as goal
 
 pub overflow_cast-fields-4 : goal.overflow_cast-fields-4
-overflow_cast-fields-4 c = widens w16 tt c.args.i.off (omega (arith, c.type_inv.i))
+overflow_cast-fields-4 c = widens w16 tt c.args.i.off (omega arith)
 
 pub overflow_cast-fields-5 : goal.overflow_cast-fields-5
-overflow_cast-fields-5 c = widens w32 tt c.args.i.imm (omega (arith, c.struct_told-2-1.given))
+overflow_cast-fields-5 c = widens w32 tt c.args.i.imm (omega arith)
 
 pub returns : goal.returns
 unfolding insn_fields
-returns c = rw (to_z_pos w64 c.args.i.code (omega (arith, c.struct_known-1.given)), to_z_pos w64 c.args.i.dst (omega (arith, c.struct_known-2-1.given)), to_z_pos w64 c.args.i.src (omega (arith, c.struct_known-3-1.given)), widened w16 tt c.args.i.off (omega (arith, c.type_inv.i)), widened w32 tt c.args.i.imm (omega (arith, c.struct_told-2-1.given)))
+returns c = rw (to_z_pos w64 c.args.i.code (omega arith), to_z_pos w64 c.args.i.dst (omega arith), to_z_pos w64 c.args.i.src (omega arith), widened w16 tt c.args.i.off (omega arith), widened w32 tt c.args.i.imm (omega arith))

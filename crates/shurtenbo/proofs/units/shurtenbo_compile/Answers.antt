@@ -6,8 +6,10 @@ use Rattle.shurtenbo.proofs.units.shurtenbo_compile.Goals as goal
 
 pub returns-in-Done : goal.returns-in-Done
 unfolding compiled_numbers
-returns-in-Done c = (c.done.ensures ∙ ap compiled_numbers (sym c.in-Done.is ∙ c.compile_tracepoint.ensures.value), c.compile_tracepoint.ensures.code_after)
+returns-in-Done c =
+    record { answer_after = c.done.ensures ∙ ap compiled_numbers (sym c.in-Done.is ∙ c.compile_tracepoint.ensures.value); code_after = c.compile_tracepoint.ensures.code_after; relocs_after = c.compile_tracepoint.ensures.relocs_after }
 
 pub returns-in-Refused : goal.returns-in-Refused
 unfolding compiled_numbers
-returns-in-Refused c = (c.refused.ensures ∙ ap numbers_of c.refusal.ensures ∙ ap compiled_numbers (sym c.in-Refused.is ∙ c.compile_tracepoint.ensures.value), c.compile_tracepoint.ensures.code_after)
+returns-in-Refused c =
+    record { answer_after = c.refused.ensures ∙ ap numbers_of c.refusal.ensures ∙ ap compiled_numbers (sym c.in-Refused.is ∙ c.compile_tracepoint.ensures.value); code_after = c.compile_tracepoint.ensures.code_after; relocs_after = c.compile_tracepoint.ensures.relocs_after }

@@ -14,4 +14,4 @@ pub returns : goal.returns
 returns c =
     let t = c.condition_of-condition in
     let l = c.lower_instruction-e in
-    let o = c.byte_offset in record { puts = λ xs. rw (← asked_is _ _ _ c.args.j _ t.ensures) (puts_told xs _ 0 (tidy_payload _ _ _ _) l.ensures.0 (rw (← asked_is _ _ _ c.args.j _ t.ensures) at c.requires.room_at) (rw o.ensures at l.ensures.1) c.put_relocation.ensures); scratch_value = c.ring_after.ensures ∙ ring_is _ _ _ c.args.j _ t.ensures l.ensures.0 }
+    let o = c.byte_offset in record { puts = λ xs. rw (← asked_is _ _ _ c.args.j _ t.ensures) (puts_told xs _ 0 (tidy_payload _ _ _ _) l.ensures.value (rw (← asked_is _ _ _ c.args.j _ t.ensures) at c.requires.room_at) (rw o.ensures at l.ensures.code_after) c.put_relocation.ensures); scratch_value = c.ring_after.ensures ∙ ring_is _ _ _ c.args.j _ t.ensures l.ensures.value }
