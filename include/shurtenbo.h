@@ -1,7 +1,7 @@
 /* Shurtenbo, a verified eBPF back end: the C interface.
  *
- * Link libshurtenbo.a: `rt staticlib shurtenbo` writes target/staticlib/libshurtenbo.a, for x86-64. What each function promises
- * is proved; the definitions that the promises cite stand in crates/shurtenbo/specs and in the specs of the crates below it.
+ * Link libshurtenbo.a: `tools/staticlib.sh` writes target/staticlib/libshurtenbo.a, for x86-64. What each function promises is
+ * proved; the definitions that the promises cite stand in crates/shurtenbo/specs and in the specs of the crates below it.
  *
  * Lending. A buffer is a pointer and a length, which counts elements and not bytes. A pointer is never null, also where the length
  * is 0, and is aligned for its elements. What a call may write (no const) overlaps nothing else that is lent to the same call. A

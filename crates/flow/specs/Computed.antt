@@ -1,5 +1,5 @@
 -- The reached ids computed: from the first block's id, as many sweeps over the blocks as there are blocks, each adding the targets of reached ids.
-use Rattle.std.specs.Prelude.{ℕ, zero, suc, Bool, true, false, List, [], ◌∷◌, ◌++◌, length}
+use Rattle.std.specs.Prelude.{ℕ, zero, suc, Bool, List, [], ◌∷◌, ◌++◌, length}
 use Rattle.wire.specs.Pick.{pick}
 use Rattle.flow.specs.Node.{Node, among, Found, found, none, last_with}
 

@@ -1,5 +1,5 @@
 -- What the flow of a unit's blocks is told in: per block whether it is emitted, and the numbers of the blocks that its targets mean.
-use Rattle.std.specs.Prelude.{ℕ, zero, suc, ◌+◌, ◌*◌, Bool, true, false, List, [], ◌∷◌, ◌++◌, eqb, leb, length, take, get_or}
+use Rattle.std.specs.Prelude.{ℕ, zero, suc, ◌+◌, ◌*◌, Bool, List, [], ◌∷◌, eqb, leb, length, take, get_or}
 use Rattle.std.proofs.lemmas.List.Edits.{sets}
 use Rattle.wire.specs.Pick.{pick, both}
 use Rattle.flow.specs.Node.{Node}

@@ -1,5 +1,5 @@
 -- Blocks as they are for control flow: an id and the ids it goes to. An id means the last block that has it.
-use Rattle.std.specs.Prelude.{ℕ, Bool, true, false, List, [], ◌∷◌, eqb}
+use Rattle.std.specs.Prelude.{ℕ, Bool, false, List, [], ◌∷◌, eqb}
 use Rattle.wire.specs.Pick.{pick, either}
 
 pub record Node : Type 0 where

@@ -60,9 +60,6 @@ found i (x ∷ xs) v a e = go (eqb v x) refl (found (suc i) xs v a) e
 -- ---- at most 56 variables
 
 module _ (vs : List ℕ) (few : length vs ≤ 56) where
-  ring : (j : ℕ) → length vs + j % 8 < 64
-  ring j = omega (arith, mod-lt j {m = 8} (omega arith))
-
   pub disjoint : Disjoint vs
   unfolding frame_of
   disjoint =
@@ -76,3 +73,6 @@ module _ (vs : List ℕ) (few : length vs ≤ 56) where
         cell_scratch = λ v j a e. let p = found 0 vs v a e in rw p.offset (apart _ _ (λ (s : 0 + p.place ≡ length vs + j % 8). omega arith) (omega arith) (ring j));
         scratches = λ j k n. apart _ _ (λ (s : length vs + j % 8 ≡ length vs + k % 8). n (omega arith)) (ring j) (ring k);
       }
+    where
+      ring : (j : ℕ) → length vs + j % 8 < 64
+      ring j = omega (arith, mod-lt j {m = 8} (omega arith))

@@ -18,7 +18,6 @@ use Rattle.ir.specs.declared.Opcode.{Opcode}
 use Rattle.ir.specs.declared.Opcode.TheVariants as C
 use Rattle.opcode.specs.Opcode.{operations, small_of, row, fields_of, map_of, opcodes, opcode_in, map_ok, same_number, same_fields, opcode_of, is_opcode}
 use Rattle.opcode.specs.declared.Fields.{Fields}
-use Rattle.opcode.specs.declared.ReadOpcode.{ReadOpcode}
 use Rattle.opcode.specs.declared.ReadOpcode.TheVariants.{Is, Broken}
 
 -- ---- tests

@@ -14,7 +14,6 @@ use Rattle.record.specs.Frame.{length_at, whole_at, next_at}
 use Rattle.record.specs.Record.{read_record}
 use Rattle.recordcheck.specs.Checked.{checked_of}
 use Rattle.recordcheck.specs.declared.Checked.TheVariants as Ch
-use Rattle.record.specs.declared.Record.{Record}
 use Rattle.record.specs.declared.Record.TheVariants as R
 use Rattle.record.specs.declared.Due.TheVariants as Du
 use Rattle.record.specs.declared.Fault.{Fault}

@@ -3,7 +3,6 @@ use Rattle.std.specs.Prelude.{◌≡◌, ℕ, zero, suc, ◌<◌, Bool, true, fa
 use Rattle.wire.specs.Pick.{pick}
 use Rattle.record.specs.Record.{read_record}
 use Rattle.record.specs.declared.Head.{Head}
-use Rattle.record.specs.declared.Record.{Record}
 use Rattle.record.specs.declared.Record.TheVariants as R
 use Rattle.record.specs.declared.Due.TheVariants as Du
 use Rattle.record.specs.declared.Fault.{Fault}

@@ -8,7 +8,7 @@ use native.Mathlib.Numerals.{sub-one}
 use borrow.Author.Tests.{eqb-true}
 use lib.Dec.{eqb, leb}
 use lib.IntN.{ℤ}
-use lib.ListN.{length, get_or, length-append, get_or-eq_default}
+use lib.ListN.{length, length-append, get_or-eq_default}
 use mir.Syntax.{w32, w64}
 use Rattle.wire.specs.Pick.{pick}
 use Rattle.wire.specs.Le.{byte_at, unsigned_at, signed_at}
@@ -22,7 +22,6 @@ use Rattle.ir.proofs.OperandLaws.{pushed_last}
 use Rattle.operand.specs.Operand.{operand_at, on_operand, operands_at, is_operand, are_operands, operand_in, operands_in}
 use Rattle.operand.specs.declared.ReadOperand.{ReadOperand}
 use Rattle.operand.specs.declared.ReadOperand.TheVariants as O
-use Rattle.operand.specs.declared.ReadOperands.{ReadOperands}
 use Rattle.operand.specs.declared.ReadOperands.TheVariants as L
 use Rattle.operand.proofs.OperandList.{operand_room}
 

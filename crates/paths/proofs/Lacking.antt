@@ -5,7 +5,7 @@ use mathlib.Core.Logic.{◌↔◌}
 use mathlib.Core.List.{List}
 use Prim.Native.Nat.{ℕ, ◌-◌, ◌<◌, min}
 use native.Mathlib.Omega.{arith}
-use lib.Bits.{bit_and, and_le_l}
+use lib.Bits.{and_le_l}
 use lib.Count.{count_trailing_zeros}
 use Rattle.wire.specs.Bit.{bit}
 use Rattle.worklist.specs.Words.{Lowest}

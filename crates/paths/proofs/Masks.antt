@@ -15,8 +15,8 @@ use Rattle.insn.specs.declared.Insn.{Insn}
 use Rattle.insn.specs.declared.form.Form.{Form}
 use Rattle.insn.specs.declared.form.Form.TheVariants.{NoForm, WideLoad, Ldx, Stx, AluImm, AluReg, MovImm, MovReg, Ja, JeqImm, JneImm, Call, Exit}
 use Rattle.shape.specs.Code.{at, form_at}
-use Rattle.paths.specs.Registers.{Regs, reads, at_start, with, called, after}
-use Rattle.paths.specs.Mask.{mask, read_mask, only, flow_of, node_of, node_at}
+use Rattle.paths.specs.Registers.{Regs, at_start, with, called, after}
+use Rattle.paths.specs.Mask.{mask, only, flow_of, node_of, node_at}
 use Rattle.paths.specs.Work.{through}
 use Rattle.paths.specs.declared.node.Node.{Node}
 use Rattle.paths.specs.declared.node.Flow.{Flow}

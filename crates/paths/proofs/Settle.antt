@@ -10,14 +10,14 @@ use lib.Dec.{leb, ltb}
 use lib.ListN.{length, get_or, set, length-set, get_or-eq_default}
 use lib.Seq.{get_or-set_same}
 use borrow.Author.Tests.{le-leb, lt-ltb, leb-true, ltb-true}
-use Rattle.wire.specs.Pick.{both, either}
+use Rattle.wire.specs.Pick.{either}
 use Rattle.wire.specs.Bit.{bit}
 use Rattle.worklist.specs.Words.{listed, Sound}
 use Rattle.worklist.specs.Set.{marked_low, marked_mid, marked_top}
 use Rattle.wire.proofs.Bits.{low_bit}
 use Rattle.worklist.proofs.Total.{after_set}
 use Rattle.worklist.proofs.Words.{marked}
-use Rattle.shape.specs.Code.{slots, at}
+use Rattle.shape.specs.Code.{slots}
 use Rattle.shape.proofs.Tests.{both_true, either_true}
 use Rattle.paths.specs.Registers.{Regs, at_start}
 use Rattle.paths.specs.Way.{Next, Way, Way.begin, Way.step, Reached, Passes}

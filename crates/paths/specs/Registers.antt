@@ -1,5 +1,5 @@
 -- Which registers an instruction reads, and which are readable after it.
-use Rattle.std.specs.Prelude.{ℕ, Bool, true, false, eqb, leb}
+use Rattle.std.specs.Prelude.{ℕ, Bool, false, eqb, leb}
 use Rattle.wire.specs.Pick.{pick, both, either}
 use Rattle.insn.specs.Helper.{helper_of, arguments}
 use Rattle.insn.specs.declared.Insn.{Insn}

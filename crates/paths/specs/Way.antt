@@ -1,5 +1,5 @@
 -- The paths through code: from slot 0, both sides of each conditional jump.
-use Rattle.std.specs.Prelude.{ℕ, suc, ◌+◌, ◌<◌, ◌≤◌, Bool, true, false, ◌≡◌, List, pos}
+use Rattle.std.specs.Prelude.{ℕ, suc, ◌+◌, ◌<◌, ◌≤◌, true, false, ◌≡◌, List, pos}
 use Rattle.insn.specs.declared.Insn.{Insn}
 use Rattle.insn.specs.declared.form.Form.{Form}
 use Rattle.shape.specs.Code.{slots, at, form_at}

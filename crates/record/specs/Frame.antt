@@ -1,5 +1,5 @@
 -- A record is a u16 payload length, a u16 kind, then the payload.
-use Rattle.std.specs.Prelude.{ℕ, ◌+◌, Bool, true, false, List, leb, length}
+use Rattle.std.specs.Prelude.{ℕ, ◌+◌, Bool, false, List, leb, length}
 use Rattle.std.specs.Int.{w16}
 use Rattle.wire.specs.Pick.{pick}
 use Rattle.wire.specs.Le.{unsigned_at}

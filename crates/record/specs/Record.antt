@@ -1,5 +1,5 @@
 -- The record that is due at a byte, and the refusals in 01's order: 2, then 3 or 4, then 5.
-use Rattle.std.specs.Prelude.{ℕ, ◌+◌, Bool, true, false, List, eqb, pos}
+use Rattle.std.specs.Prelude.{ℕ, ◌+◌, Bool, true, List, eqb, pos}
 use Rattle.wire.specs.Pick.{pick}
 use Rattle.wire.specs.declared.refusal.Refusal.{Refusal}
 use Rattle.record.specs.Frame.{length_at, kind_at, whole_at, next_at}

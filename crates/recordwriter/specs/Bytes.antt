@@ -3,7 +3,6 @@ use Rattle.std.specs.Prelude.{ℕ, List, ◌++◌, length, take, drop}
 use Rattle.std.specs.Int.{w16, w32}
 use Rattle.wire.specs.Le.{unsigned_bytes}
 use Rattle.ir.specs.Operands.{list_of}
-use Rattle.ir.specs.declared.Instruction.{Instruction}
 use Rattle.record.specs.Payload.{kind_of}
 use Rattle.record.specs.declared.Record.{Record}
 use Rattle.record.specs.declared.Record.TheVariants as R

@@ -15,7 +15,6 @@ use Rattle.shape.specs.declared.Shapes.TheVariants as Ss
 use Rattle.paths.specs.Way.{Reached}
 use Rattle.paths.specs.Readable.{Filled}
 use Rattle.paths.proofs.Unreached.{below_reached, no_path_full}
-use Rattle.screen.specs.declared.Fault.{Fault}
 use Rattle.screen.specs.declared.Fault.TheVariants.{BadLength, ShortTable}
 use Rattle.screen.specs.declared.Verdict.{Verdict}
 use Rattle.screen.specs.declared.Verdict.TheVariants.{Refused}

@@ -8,7 +8,6 @@ use native.Mathlib.Omega.{arith}
 use lib.Bits.{bit_or}
 use lib.ListN.{length, get_or, replicate, length-set, length-replicate, get_or-replicate, get_or-eq_default}
 use lib.Seq.{get_or-set_same, get_or-set_other}
-use Rattle.wire.specs.Bit.{bit}
 use Rattle.wire.proofs.Bits.{bit_of_zero, or_pow, or_pow_other}
 use Rattle.shape.specs.Code.{slots, start}
 use Rattle.shape.specs.Set.{member, with, after, Starts}

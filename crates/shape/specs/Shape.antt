@@ -1,5 +1,5 @@
 -- The shape rules 32 to 36 of one instruction, lowest number first.
-use Rattle.std.specs.Prelude.{ℕ, suc, ◌+◌, ◌*◌, ◌%◌, Bool, true, false, List, eqb, leb, ltb, ℤ, pos, negsuc, ◌+ℤ◌}
+use Rattle.std.specs.Prelude.{ℕ, suc, ◌%◌, Bool, true, false, List, eqb, leb, ltb, ℤ, pos, negsuc, ◌+ℤ◌}
 use Rattle.wire.specs.Pick.{pick, both, not, implies, is_zero}
 use Rattle.insn.specs.Helper.{helper_of, is_helper}
 use Rattle.insn.specs.declared.Insn.{Insn}

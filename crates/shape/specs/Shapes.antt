@@ -1,5 +1,5 @@
 -- The shape of a whole code: 30, then the lowest slot first and the lowest number, then 37.
-use Rattle.std.specs.Prelude.{ℕ, zero, suc, ◌%◌, Bool, true, false, List, eqb, leb, ltb, length}
+use Rattle.std.specs.Prelude.{ℕ, zero, suc, ◌%◌, Bool, List, eqb, leb, ltb, length}
 use Rattle.wire.specs.Pick.{pick, both}
 use Rattle.shape.specs.Code.{slots, start}
 use Rattle.shape.specs.Shape.{shape_at}

@@ -8,7 +8,7 @@ use native.Mathlib.Omega.{arith}
 use lib.Bits.{bit_or, or_add_and, or_lt}
 use lib.Dec.{eqb, leb, ltb}
 use lib.Pow.{pow_mono, pow-lt, pow_pos}
-use lib.ListN.{length, get_or, set, length-set, get_or-eq_default, replicate, length-replicate, get_or-replicate}
+use lib.ListN.{length, get_or, length-set, get_or-eq_default, replicate, length-replicate, get_or-replicate}
 use lib.Seq.{get_or-set_same}
 use borrow.Author.Tests.{ltb-true, ltb-false, leb-true, leb-false, eqb-true, eqb-false}
 use Rattle.wire.specs.Pick.{pick, either}
@@ -16,7 +16,6 @@ use Rattle.wire.specs.Bit.{bit}
 use Rattle.wire.proofs.Bits.{nonzero, or_pow, or_keeps}
 use Rattle.worklist.specs.Words.{Lowest, total, itself, listed, Sound, weight, Marked, Took}
 use Rattle.worklist.specs.Set.{with_bit, without_bit, marked_low, marked_mid, marked_top, lowest_bit, Lead, Lead.nowhere, Lead.to_summary, Lead.to_word, Lead.to_slot, from_word, from_summary, lead, taken_low, taken_mid, taken}
-use Rattle.worklist.specs.declared.Taken.{Taken}
 use Rattle.worklist.proofs.LowestBit.{lowest_bit_lem, lowest_below}
 use Rattle.worklist.proofs.Total.{total_set, after_set}
 

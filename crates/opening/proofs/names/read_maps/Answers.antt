@@ -1,5 +1,4 @@
 use mathlib.Core.Path.{◌≡◌, refl, sym, ◌∙◌}
-use Prim.Native.Nat.{◌-◌}
 use native.Mathlib.Omega.{arith}
 use Rattle.opening.specs.Inner.{maps_of}
 use Rattle.opening.proofs.MapLaws.{reached_refused}

@@ -1,4 +1,5 @@
 -- `first_broken` answers the lowest number.
+use Rattle.std.proofs.Common.{arith}
 use Rattle.shape.specs.Shape.{first_broken}
 use Rattle.shape.proofs.instruction.first_broken.Goals as goal
 
@@ -12,7 +13,7 @@ returns-then-not-registers c = simp (c.if-not-known.false, c.if-not-registers.tr
 
 pub returns-then-not-unused : goal.returns-then-not-unused
 unfolding first_broken
-returns-then-not-unused c = simp (c.if-not-known.false, c.if-not-registers.false, c.if-not-unused.true)
+returns-then-not-unused c = grind arith
 
 pub returns-then-not-access : goal.returns-then-not-access
 unfolding first_broken

@@ -1,5 +1,4 @@
 use mathlib.Core.Path.{sym, ◌∙◌}
-use Prim.Native.Nat.{◌-◌}
 use native.Mathlib.Omega.{arith}
 use Rattle.shape.specs.Code.{slots}
 use Rattle.shape.proofs.Relocs.{pair_exact, left_all, left_narrow, left_wide, left_differs, left_end, left_over}

@@ -1,5 +1,4 @@
 use Prim.Native.Nat.{◌<◌}
-use Prim.Native.Nat.{◌-◌}
 use native.Mathlib.Omega.{arith}
 use Rattle.shape.specs.Code.{slots}
 use Rattle.shape.proofs.Starts.{after_more}

@@ -1,5 +1,5 @@
 -- `put_decimal` puts the last digit first: what is left to write stays the digits before it.
-use Prim.Native.Nat.{◌+◌, ◌-◌, ◌≤◌}
+use Prim.Native.Nat.{◌+◌, ◌≤◌}
 use mathlib.Core.Path.{◌≡◌}
 use lib.ListN.{length}
 use Rattle.wire.specs.Le.{store}

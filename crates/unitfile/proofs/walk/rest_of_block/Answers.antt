@@ -1,5 +1,4 @@
 use mathlib.Core.Path.{refl, sym, ◌∙◌}
-use Prim.Native.Nat.{◌-◌}
 use native.Mathlib.Omega.{arith}
 use Rattle.unitfile.specs.Inner.{on_end}
 use Rattle.unitfile.proofs.Passing.{passed, instruction_passed, block_ended, inside_refused}
