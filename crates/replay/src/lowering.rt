@@ -105,11 +105,21 @@ fn cases(
     Ok(())
 }
 
+fn list(
+    out: &impl Print,
+    file: &mut impl Read,
+    unit: &mut [u8; 131072],
+    code: &mut [u8; 524288],
+    relocs: &mut [u32; 8192],
+) -> io::Result<()> {
+    cases(out, file, unit, code, relocs)
+}
+
 pub(crate) fn replay(rt: &(impl Files + Print)) -> io::Result<()> {
     let mut unit = [0u8; 131072];
     let mut code = [0u8; 524288];
     let mut relocs = [0u32; 8192];
-    cases(
+    list(
         rt,
         &mut fs::open(rt, "lowering")?,
         &mut unit,

@@ -95,7 +95,11 @@ fn cases(out: &impl Print, list: &mut impl Read, buffer: &mut [u8]) -> io::Resul
     Ok(())
 }
 
+fn list(out: &impl Print, file: &mut impl Read, buffer: &mut [u8; 524288]) -> io::Result<()> {
+    cases(out, file, buffer)
+}
+
 pub(crate) fn replay(rt: &(impl Files + Print)) -> io::Result<()> {
     let mut buffer = [0u8; 524288];
-    cases(rt, &mut fs::open(rt, "units")?, &mut buffer)
+    list(rt, &mut fs::open(rt, "units")?, &mut buffer)
 }
