@@ -113,7 +113,7 @@ body_refused h (refused g) f e = let z : g ≡ f = cc in ap B.Refused z
 
 module _ (b : List ℕ) where
   -- its head and its maps were read
-  pub record Opened-at (h : Head) (names : List (List ℕ)) (at : ℕ) : Type 0 where
+  pub record OpenedAt (h : Head) (names : List (List ℕ)) (at : ℕ) : Type 0 where
     pub first : ℕ
     pub head : head_of (first_record b) ≡ H.Is h first
     pub maps : names_at b [] first h.maps ≡ named names at
@@ -127,7 +127,7 @@ module _ (b : List ℕ) where
       (p, cc)
   names_by g (refused f) h names at e = let z : ◌≡◌ {A = ℕ} 0 1 = cc in absurd (omega arith)
 
-  opened_by : (x : HeadAt) → head_of (first_record b) ≡ x → (h : Head) (names : List (List ℕ)) (at : ℕ) → open_unit b ≡ opened h names at → Opened-at h names at
+  opened_by : (x : HeadAt) → head_of (first_record b) ≡ x → (h : Head) (names : List (List ℕ)) (at : ℕ) → open_unit b ≡ opened h names at → OpenedAt h names at
   opened_by (H.Is g first) p h names at e =
       let n = names_by g (names_at b [] first g.maps) h names at (sym (open_head b g first p) ∙ e) in
       let q = n.0 in
@@ -137,5 +137,5 @@ module _ (b : List ℕ) where
       let q = sym (open_shut b f p) ∙ e in
       let z : ◌≡◌ {A = ℕ} 0 1 = cc in absurd (omega arith)
 
-  pub opened_at : (h : Head) (names : List (List ℕ)) (at : ℕ) → open_unit b ≡ opened h names at → Opened-at h names at
+  pub opened_at : (h : Head) (names : List (List ℕ)) (at : ℕ) → open_unit b ≡ opened h names at → OpenedAt h names at
   opened_at = opened_by (head_of (first_record b)) refl

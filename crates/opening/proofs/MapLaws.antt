@@ -131,7 +131,7 @@ unfolding names_at map_at
 names_step b names at k = on_map_lem b names at (read_record b at Du.Map 0) (λ more next. names_at b more next k)
 
 -- where maps were read, the first of them was: its name is none of those before it
-pub record Read-one (b : List ℕ) (names : List (List ℕ)) (at k : ℕ) (all : List (List ℕ)) (end : ℕ) : Type 0 where
+pub record ReadOne (b : List ℕ) (names : List (List ℕ)) (at k : ℕ) (all : List (List ℕ)) (end : ℕ) : Type 0 where
   pub start : ℕ
   pub len : ℕ
   pub next : ℕ
@@ -139,15 +139,15 @@ pub record Read-one (b : List ℕ) (names : List (List ℕ)) (at k : ℕ) (all :
   pub fresh : among (part start len b) names ≡ false
   pub rest : names_at b (names ++ (part start len b ∷ [])) next k ≡ named all end
 
-read_by : (b : List ℕ) (names : List (List ℕ)) (at k : ℕ) (all : List (List ℕ)) (end : ℕ) (m : MapAt) → map_at b at ≡ m → by_map b names at m (λ more next. names_at b more next k) ≡ named all end → Read-one b names at k all end
+read_by : (b : List ℕ) (names : List (List ℕ)) (at k : ℕ) (all : List (List ℕ)) (end : ℕ) (m : MapAt) → map_at b at ≡ m → by_map b names at m (λ more next. names_at b more next k) ≡ named all end → ReadOne b names at k all end
 unfolding by_map
 read_by b names at k all end (M.Is start len next) h =
-    pick_ind (λ (x : Names). x ≡ named all end → Read-one b names at k all end) (among (part start len b) names) _ _
+    pick_ind (λ (x : Names). x ≡ named all end → ReadOne b names at k all end) (among (part start len b) names) _ _
     (λ t e. let z : ◌≡◌ {A = ℕ} 0 1 = cc in absurd (omega arith))
     (λ t e. record { start = start; len = len; next = next; map = h; fresh = t; rest = e })
 read_by b names at k all end (M.Refused f) h = λ e. let z : ◌≡◌ {A = ℕ} 0 1 = cc in absurd (omega arith)
 
-pub read_one : (b : List ℕ) (names : List (List ℕ)) (at k : ℕ) (all : List (List ℕ)) (end : ℕ) → names_at b names at (suc k) ≡ named all end → Read-one b names at k all end
+pub read_one : (b : List ℕ) (names : List (List ℕ)) (at k : ℕ) (all : List (List ℕ)) (end : ℕ) → names_at b names at (suc k) ≡ named all end → ReadOne b names at k all end
 read_one b names at k all end e = read_by b names at k all end (map_at b at) refl (sym (names_step b names at k) ∙ e)
 
 -- j maps, and then k more
@@ -253,13 +253,13 @@ module _ (b : List ℕ) (first k at : ℕ) (r : Reached b first k at) where
   taken_is name = sym (taken_among b name k [] first r.names at r.read)
 
   -- the map that was read next
-  pub record Read-next (next : ℕ) : Type 0 where
+  pub record ReadNext (next : ℕ) : Type 0 where
     pub start : ℕ
     pub len : ℕ
     pub map : map_at b at ≡ M.Is start len next
     pub read : names_at b [] first (k + 1) ≡ named (r.names ++ (part start len b ∷ [])) next
 
-  until_by : (m : MapAt) (next : ℕ) → map_at b at ≡ m → one_more b first k at m ≡ Ms.Until next → Read-next next
+  until_by : (m : MapAt) (next : ℕ) → map_at b at ≡ m → one_more b first k at m ≡ Ms.Until next → ReadNext next
   unfolding one_more by_map names_at
   until_by (M.Is start len n) next h e =
       let u = until_at (among (part start len b) r.names) at n next (rw (taken_is (part start len b)) at e) in
@@ -276,7 +276,7 @@ module _ (b : List ℕ) (first k at : ℕ) (r : Reached b first k at) where
   refused_by j (M.Is start len next) f e = refused_at_lem (among (part start len b) r.names) at next f _ (rw (taken_is (part start len b)) at e)
   refused_by j (M.Refused g) f e = let z : g ≡ f = cc in ap refused z
 
-  pub read_next : (next : ℕ) → one_more b first k at (map_at b at) ≡ Ms.Until next → Read-next next
+  pub read_next : (next : ℕ) → one_more b first k at (map_at b at) ≡ Ms.Until next → ReadNext next
   read_next next e = until_by (map_at b at) next refl e
 
   pub reached_refused : (maps : ℕ) (f : Fault) → k < maps → one_more b first k at (map_at b at) ≡ Ms.Refused f → names_at b [] first maps ≡ refused f

@@ -13,6 +13,7 @@ pub mod Faultless
 pub mod Alone
 pub mod Sizes
 pub mod Room
+pub mod UnitRoom
 pub mod Ours
 pub mod Jumping
 pub mod OwnJumps

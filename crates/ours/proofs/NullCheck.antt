@@ -203,17 +203,8 @@ module _ (b : List ℕ) (xs : List Start) (s : ℕ) (h : Here b xs s leaving) wh
       (confined_cons (λ q w. absurd (no_jump b (suc (suc (suc s))) keeps_exit after_third.stands.0 refl w))
       (confined_cons (λ q w. absurd (bit_none b (suc (suc (suc (suc s)))) 0 1 (omega arith) (omega arith) after_fourth.stands.0 w)) confined_none))))
 
-  leaving_inside : {Out : ℕ → Type 0} {D : Regs} → s + 5 < slots b → D 0 ≡ true → Safe b Out (suc (suc (suc (suc (suc s))))) (with 0 D) → Inside b Out s D
-  unfolding insns
-  leaving_inside {Out} {D} l d o =
-      let at5 : Safe b Out (suc (suc (suc (suc s)))) D = bit_safe b (suc (suc (suc (suc s)))) 0 1 (omega arith) (omega arith) after_fourth.stands.0 (omega arith) o in
-      let at4 : Safe b Out (suc (suc (suc s))) (with answer D) = inside (exit_inside b (suc (suc (suc s))) after_third.stands.0 (omega arith) (with_has answer D)) in
-      let at3 : Safe b Out (suc (suc s)) D = bit_safe b (suc (suc s)) answer 0 (omega arith) (omega arith) after_second.stands.0 (omega arith) at4 in
-      let at2 : Safe b Out (suc s) D = ja_safe b (suc s) 2 (suc (suc (suc (suc s)))) (omega arith) (omega arith) after_first_lem.stands.0 (omega arith) at5 in
-      jeq_inside b s 1 (suc (suc s)) (omega arith) (omega arith) h.stands.0 (omega arith) d at2 at3
-
 pub leaving_piece : {D : Regs} → D 0 ≡ true → Piece leaving D (with 0 D)
-unfolding slots_of
+unfolding slots_of insns
 leaving_piece {D} d =
     record {
       narrow = leaving_narrow;
@@ -223,3 +214,11 @@ leaving_piece {D} d =
           leaving_inside b xs s h l d (rw e at o);
       confined = λ b xs s h. leaving_confined b xs s h;
     }
+  where
+    leaving_inside : (b : List ℕ) (xs : List Start) (s : ℕ) (h : Here b xs s leaving) {Out : ℕ → Type 0} {D : Regs} → s + 5 < slots b → D 0 ≡ true → Safe b Out (suc (suc (suc (suc (suc s))))) (with 0 D) → Inside b Out s D
+    leaving_inside b xs s h {Out} {D} l d o =
+        let at5 : Safe b Out (suc (suc (suc (suc s)))) D = bit_safe b (suc (suc (suc (suc s)))) 0 1 (omega arith) (omega arith) (after_fourth b xs s h).stands.0 (omega arith) o in
+        let at4 : Safe b Out (suc (suc (suc s))) (with answer D) = inside (exit_inside b (suc (suc (suc s))) (after_third b xs s h).stands.0 (omega arith) (with_has answer D)) in
+        let at3 : Safe b Out (suc (suc s)) D = bit_safe b (suc (suc s)) answer 0 (omega arith) (omega arith) (after_second b xs s h).stands.0 (omega arith) at4 in
+        let at2 : Safe b Out (suc s) D = ja_safe b (suc s) 2 (suc (suc (suc (suc s)))) (omega arith) (omega arith) (after_first_lem b xs s h).stands.0 (omega arith) at5 in
+        jeq_inside b s 1 (suc (suc s)) (omega arith) (omega arith) h.stands.0 (omega arith) d at2 at3

@@ -28,7 +28,7 @@ use Rattle.ours.proofs.Frames.{cells}
 use Rattle.ours.proofs.Whole.{first, unit_parts}
 use Rattle.ours.proofs.Faultless.{no_fault}
 use Rattle.ours.proofs.Alone.{one_slot, alone_judged, alone_past}
-use Rattle.ours.proofs.Room.{emitted_slots}
+use Rattle.ours.proofs.UnitRoom.{emitted_slots}
 
 -- ---- what lowering hands on
 

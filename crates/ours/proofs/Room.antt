@@ -1,5 +1,5 @@
--- The code of a unit that was read has at most 131,072 slots: a record of n bytes becomes at most n/2 of them.
-use mathlib.Core.Path.{◌≡◌, sym, ap, ◌∙◌, subst}
+-- Blocks of n bytes become at most n/2 slots.
+use mathlib.Core.Path.{◌≡◌, ap, subst}
 use mathlib.Core.Bool.{Bool, true, false}
 use mathlib.Core.List.{List, [], ◌∷◌, ◌++◌, map}
 use Prim.Native.Nat.{ℕ, suc, ◌+◌, ◌*◌, ◌≤◌}
@@ -7,15 +7,11 @@ use native.Mathlib.Omega.{arith}
 use lib.ListN.{length}
 use Rattle.wire.specs.Pick.{pick}
 use Rattle.ir.specs.Operands.{list_of}
-use Rattle.unitfile.specs.Records.{Placed, at_block}
-use Rattle.unitfile.specs.Unit.{PlacedInstruction, BasicBlock, UnitIr, parsed, parse, Decided, refusal, whole_unit}
+use Rattle.unitfile.specs.Records.{Placed}
+use Rattle.unitfile.specs.Unit.{PlacedInstruction, BasicBlock}
 use Rattle.unitfile.proofs.Blocks.{instruction_record, terminator_record, onto, flat}
 use Rattle.record.specs.Terminator.{terminator_size}
-use Rattle.unitfile.proofs.Sizes.{payload_size, sizes, sizes_all}
-use Rattle.unitfile.proofs.Theorems.{decided}
-use Rattle.unitfile.proofs.Units.{unit_of}
-use Rattle.survey.specs.Surveyed.{blocks_of}
-use Rattle.survey.proofs.Bounds.{blocks_flat}
+use Rattle.unitfile.proofs.Sizes.{payload_size, sizes}
 use Rattle.lower.specs.Op.{Op, slots_of}
 use Rattle.lower.specs.Instruction.{instruction, scratch_after}
 use Rattle.lower.specs.Terminator.{terminator}
@@ -45,7 +41,7 @@ unfolding block_bytes flat onto sizes payload_size
 sizes_block k ks = omega (arith, sizes_instructions k.instructions (terminator_record k.ending k.terminator ∷ flat ks))
 
 -- a block that is not emitted takes bytes all the same
-sizes_keep : (reached : ℕ → Bool) (ks : List BasicBlock) → sizes (flat (keep reached ks)) ≤ sizes (flat ks)
+pub sizes_keep : (reached : ℕ → Bool) (ks : List BasicBlock) → sizes (flat (keep reached ks)) ≤ sizes (flat ks)
 unfolding keep
 sizes_keep reached [] = omega arith
 sizes_keep reached (k ∷ ks) = go (reached k.id) (sizes_keep reached ks)
@@ -84,31 +80,10 @@ module _ (c : Context) where
       omega (arith, ap slots_of m.is, slots_append m.first m.second, sizes_block k ks)
 
   -- with slot 0
-  unit_slots : (ks : List BasicBlock) (l : List Op) → unit_ops c ks ≡ laid l → sizes (flat ks) ≤ 262144 → slots_of l ≤ 131072
+  pub unit_slots : (ks : List BasicBlock) (l : List Op) → unit_ops c ks ≡ laid l → sizes (flat ks) ≤ 262144 → slots_of l ≤ 131072
   unfolding slots_of flat sizes
   unit_slots ks l e h = let P = unit_parts c ks l e in go ks P.rest (blocks_slots 0 ks P.rest P.others) (ap slots_of P.is) h
     where
       go : (ks : List BasicBlock) (rest : List Op) → 2 * slots_of rest + 8 * length ks ≤ sizes (flat ks) → slots_of l ≡ suc (slots_of rest) → sizes (flat ks) ≤ 262144 → slots_of l ≤ 131072
       go [] rest r n h = omega arith
       go (k ∷ ks) rest r n h = omega arith
-
--- ---- the unit
-
-unit_bytes : (b : List ℕ) (u : UnitIr) → parse b ≡ parsed u → sizes (flat u.blocks) ≤ 262144
-unfolding blocks_of
-unit_bytes b u e = go (decided b)
-  where
-    go : Decided b → sizes (flat u.blocks) ≤ 262144
-    go (refusal f r p) = let q = sym p ∙ e in let z : ◌≡◌ {A = ℕ} 0 1 = cc in absurd (omega arith)
-    go (whole_unit found v r p n m) =
-        let all = rw e at (blocks_flat b found r) in
-        omega (arith, sizes_all b found.maps (flat u.blocks) (at_block found.body found.blocks) all, (unit_of b found r).short)
-
--- the blocks that are reached, by whatever test
-pub kept_slots : (b : List ℕ) (u : UnitIr) (reached : ℕ → Bool) (c : Context) (l : List Op) → parse b ≡ parsed u → unit_ops c (keep reached u.blocks) ≡ laid l → slots_of l ≤ 131072
-kept_slots b u reached c l p e = unit_slots c (keep reached u.blocks) l e (omega (arith, sizes_keep reached u.blocks, unit_bytes b u p))
-
--- the emitted blocks of a unit that was read
-pub emitted_slots : (b : List ℕ) (u : UnitIr) (c : Context) (l : List Op) → parse b ≡ parsed u → unit_ops c (emitted u.blocks) ≡ laid l → slots_of l ≤ 131072
-unfolding emitted
-emitted_slots b u c l = kept_slots b u _ c l

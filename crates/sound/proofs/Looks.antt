@@ -46,30 +46,29 @@ module _ (i : Insn) (high : ℤ) (s p q : ℕ) (m n : Memory) (C : m.cells ≡ n
   same_first (suc (suc (suc (suc zero)))) l h = rw (h 1 refl, h 2 refl, h 3 refl, h 4 refl)
   same_first (suc (suc (suc (suc (suc k))))) l h = absurd (omega arith)
 
-  looks : (f : Form) → ((r : ℕ) → reads f i r ≡ true → reg p m r ≡ reg q n r) → turn_of p f i high s m ≡ turn_of q f i high s n
-  unfolding reads turn_of address
-  looks NoForm h = refl
-  looks WideLoad h = refl
-  looks (Ldx w) h = same_test (eqb i.src 10) (rw C) (rw (h i.src (eq-eqb i.src i.src refl)))
-  looks (Stx w) h =
-      let D = h i.dst (first i.dst i.src) in
-      let S = h i.src (second i.dst i.src) in
-      same_test (eqb i.dst 10) (rw (C, S)) (rw (C, D, S))
-  looks (AluImm o) h = rw (h i.dst (eq-eqb i.dst i.dst refl))
-  looks (AluReg o) h = rw (h i.dst (first i.dst i.src), h i.src (second i.dst i.src))
-  looks MovImm h = refl
-  looks MovReg h = rw (h i.src (eq-eqb i.src i.src refl))
-  looks Ja h = refl
-  looks JeqImm h = rw (h i.dst (eq-eqb i.dst i.dst refl))
-  looks JneImm h = rw (h i.dst (eq-eqb i.dst i.dst refl))
-  looks Call h = rw (same_first (arguments (helper_of i.imm)) (at_most_four i.imm) h, C)
-  looks Exit h = rw (h 0 refl)
-
 -- what an instruction shows and does hangs on no other register, R10 among them
 pub looks_at : (b : List ℕ) (s p q : ℕ) (m n : Memory) → m.cells ≡ n.cells → ((r : ℕ) → reads (form_at b s) (at b s) r ≡ true → reg p m r ≡ reg q n r)
     → turn p (at b) s m ≡ turn q (at b) s n
-unfolding turn form_at
-looks_at b s p q m n C h = looks (at b s) (at b (suc s)).imm s p q m n C (form_at b s) h
+unfolding turn form_at reads turn_of address
+looks_at b s p q m n C h = looks (at b s) (at b (suc s)).imm (form_at b s) h
+  where
+    looks : (i : Insn) (high : ℤ) (f : Form) → ((r : ℕ) → reads f i r ≡ true → reg p m r ≡ reg q n r) → turn_of p f i high s m ≡ turn_of q f i high s n
+    looks i high NoForm h = refl
+    looks i high WideLoad h = refl
+    looks i high (Ldx w) h = same_test (eqb i.src 10) (rw C) (rw (h i.src (eq-eqb i.src i.src refl)))
+    looks i high (Stx w) h =
+        let D = h i.dst (first i.dst i.src) in
+        let S = h i.src (second i.dst i.src) in
+        same_test (eqb i.dst 10) (rw (C, S)) (rw (C, D, S))
+    looks i high (AluImm o) h = rw (h i.dst (eq-eqb i.dst i.dst refl))
+    looks i high (AluReg o) h = rw (h i.dst (first i.dst i.src), h i.src (second i.dst i.src))
+    looks i high MovImm h = refl
+    looks i high MovReg h = rw (h i.src (eq-eqb i.src i.src refl))
+    looks i high Ja h = refl
+    looks i high JeqImm h = rw (h i.dst (eq-eqb i.dst i.dst refl))
+    looks i high JneImm h = rw (h i.dst (eq-eqb i.dst i.dst refl))
+    looks i high Call h = rw (same_first i high s p q m n C (arguments (helper_of i.imm)) (at_most_four i.imm) h, C)
+    looks i high Exit h = rw (h 0 refl)
 
 pub changes : (e : Effect) (m : Memory) (r : ℕ) → (Wrote e r → ⊥) → (Took e r → ⊥) → (after e m).regs r ≡ m.regs r
 unfolding after

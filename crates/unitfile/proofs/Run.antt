@@ -67,12 +67,12 @@ pub record Ended (b : List ℕ) (c : Cursor) : Type 0 where
 
 module _ (b : List ℕ) (maps : ℕ) (c : Cursor) where
   -- a step goes on by the record that was read
-  record Read-on (due : Due) (r : Record) (d : Cursor) : Type 0 where
+  record ReadOn (due : Due) (r : Record) (d : Cursor) : Type 0 where
     next : ℕ
     read : read_record b c.at due maps ≡ Re.Record r next
     to : d ≡ after c (kind_of r) next
 
-  read_on : (due : Due) (x : Read) → read_record b c.at due maps ≡ x → (r : Record) (d : Cursor) → on_record c x ≡ go r d → Read-on due r d
+  read_on : (due : Due) (x : Read) → read_record b c.at due maps ≡ x → (r : Record) (d : Cursor) → on_record c x ≡ go r d → ReadOn due r d
   unfolding on_record
   read_on due (Re.Record q next) h r d e =
       let z : q ≡ r = cc in
@@ -107,7 +107,7 @@ module _ (b : List ℕ) (maps : ℕ) (c : Cursor) where
     taken : Taken b c.at due maps r d.at
     goes : Goes c d r
 
-  went_by : (due : Due) (r : Record) (d : Cursor) → ((start next : ℕ) → Came maps start next due r → Goes c (after c (kind_of r) next) r) → Read-on due r d → Went due r d
+  went_by : (due : Due) (r : Record) (d : Cursor) → ((start next : ℕ) → Came maps start next due r → Goes c (after c (kind_of r) next) r) → ReadOn due r d → Went due r d
   went_by due r d h o =
       let t = record_taken b c.at due maps r o.next o.read in
       let a = ap (λ (x : Cursor). x.at) o.to ∙ after_at r o.next in

@@ -1,6 +1,9 @@
 -- `head_at` reads the first record of a unit that is not too long.
 use mathlib.Core.Path.{sym}
+use native.Mathlib.Omega.{arith}
 use borrow.Author.Tests.{le-leb, lt-leb}
+use lib.ListN.{length}
+use Prim.Native.Nat.{◌≤◌}
 use Rattle.opening.specs.Names.{first_record}
 use Rattle.opening.specs.Places.{head_of}
 use Rattle.opening.specs.Inner.{refused_head}
@@ -14,7 +17,9 @@ returns-then-s-gt262144 c = simp (lt-leb _ _ c.if-s-gt262144.true)
 
 pub returns-in_default : goal.returns-in_default
 unfolding first_record head_of refused_head
-returns-in_default c = simp (le-leb _ _ c.if-s-gt262144.false, c.head.ensures, ← c.read_record-read.ensures, c.in_default.is)
+returns-in_default c =
+    let short : length c.args.s.now ≤ 262144 = omega arith in
+    simp (le-leb _ _ short, c.head.ensures, ← c.read_record-read.ensures, c.in_default.is)
 
 pub returns-in_default-r : goal.returns-in_default-r
 unfolding first_record
