@@ -8,11 +8,12 @@ use native.Mathlib.Omega.{arith}
 use borrow.Author.Tests.{eqb-true}
 use lib.Dec.{eqb}
 use lib.ListN.{length}
+use Rattle.std.proofs.lemmas.Bool.{both_ways, cases_Bool, cases_lt}
 use Rattle.wire.specs.Pick.{pick}
 use Rattle.flow.specs.Node.{Node, among, Found, found, none, or_this, last_with}
 use Rattle.flow.specs.Reached.{Reached, first, target}
 use Rattle.flow.specs.Computed.{join, targets_of, sweep, sweeps, first_id, reached_ids, is_reached}
-use Rattle.flow.proofs.Members.{order, truth, true_false, among_none, among_first, among_later, among_cases, Within, within_trans, pick_ind, join_keeps, join_has, join_from, join_same}
+use Rattle.flow.proofs.Members.{among_none, among_first, among_later, among_cases, Within, within_trans, pick_ind, join_keeps, join_has, join_from, join_same}
 
 -- ---- a sweep
 
@@ -134,7 +135,7 @@ unfolding held
 held_most [] l = zero-le
 held_most (x ∷ xs) l =
     let r = held_most xs l in
-    ⊎_elim (λ (h : among x l ≡ true). omega (arith, held_in x xs l h)) (λ (h : among x l ≡ false). omega (arith, held_out x xs l h)) (truth (among x l))
+    ⊎_elim (λ (h : among x l ≡ true). omega (arith, held_in x xs l h)) (λ (h : among x l ≡ false). omega (arith, held_out x xs l h)) (cases_Bool (among x l))
 
 held_grows : (xs a b : List ℕ) → Within a b → held xs a ≤ held xs b
 unfolding held
@@ -143,8 +144,8 @@ held_grows (x ∷ xs) a b w =
     let r = held_grows xs a b w in
     ⊎_elim (λ (h : among x a ≡ true). omega (arith, held_in x xs a h, held_in x xs b (w.each x h)))
     (λ (h : among x a ≡ false).
-    ⊎_elim (λ (k : among x b ≡ true). omega (arith, held_out x xs a h, held_in x xs b k)) (λ (k : among x b ≡ false). omega (arith, held_out x xs a h, held_out x xs b k)) (truth (among x b)))
-    (truth (among x a))
+    ⊎_elim (λ (k : among x b ≡ true). omega (arith, held_out x xs a h, held_in x xs b k)) (λ (k : among x b ≡ false). omega (arith, held_out x xs a h, held_out x xs b k)) (cases_Bool (among x b)))
+    (cases_Bool (among x a))
 
 -- where no more are held, those that are held were
 held_same : (xs a b : List ℕ) → Within a b → held xs b ≤ held xs a → (y : ℕ) → among y xs ≡ true → among y b ≡ true → among y a ≡ true
@@ -157,10 +158,10 @@ held_same (x ∷ xs) a b w m y h k =
     (λ (p : among x a ≡ false).
     ⊎_elim (λ (q : among x b ≡ true). absurd (omega (arith, held_out x xs a p, held_in x xs b q)))
     (λ (q : among x b ≡ false).
-    ⊎_elim (λ (e : y ≡ x). absurd (true_false (ap (λ (z : ℕ). among z b) (sym e) ∙ k) q))
+    ⊎_elim (λ (e : y ≡ x). absurd (both_ways (among x b) q (ap (λ (z : ℕ). among z b) (sym e) ∙ k)))
     (λ (s : among y xs ≡ true). held_same xs a b w (omega (arith, held_out x xs a p, held_out x xs b q)) y s k) (among_cases y x xs h))
-    (truth (among x b)))
-    (truth (among x a))
+    (cases_Bool (among x b)))
+    (cases_Bool (among x a))
 
 -- an id with targets has a block
 has_block : (ns : List Node) (id t : ℕ) → among t (targets_of (last_with ns id)) ≡ true → among id (ids_of ns) ≡ true
@@ -172,7 +173,7 @@ has_block (n ∷ ns) id t h = go (last_with ns id) (has_block ns id t) h
     go (found m) r k = among_later id n.id (ids_of ns) (r k)
     go none r k =
         ⊎_elim (λ (a : eqb n.id id ≡ true). among_first id n.id (ids_of ns) (sym (eqb-true n.id id a)))
-        (λ (a : eqb n.id id ≡ false). absurd (among_none t (rw a at k))) (truth (eqb n.id id))
+        (λ (a : eqb n.id id ≡ false). absurd (among_none t (rw a at k))) (cases_Bool (eqb n.id id))
 
 closed_after : (ns : List Node) (ids : List ℕ) → held (ids_of ns) (sweep ns ns ids) ≤ held (ids_of ns) ids → Closed ns (sweep ns ns ids)
 closed_after ns ids m =
@@ -187,9 +188,9 @@ sweeps_closed : (k : ℕ) (ns : List Node) (ids : List ℕ) → length ns < k + 
 unfolding sweeps
 sweeps_closed zero ns ids h = absurd (omega (arith, held_most (ids_of ns) ids, ids_of_length ns))
 sweeps_closed (suc k) ns ids h =
-    ⊎_elim (λ (m : held (ids_of ns) (sweep ns ns ids) ≤ held (ids_of ns) ids). let c = closed_after ns ids m in rw (closed_sweeps k ns (sweep ns ns ids) c) c)
-    (λ (m : held (ids_of ns) ids < held (ids_of ns) (sweep ns ns ids)). sweeps_closed k ns (sweep ns ns ids) (omega arith))
-    (order (held (ids_of ns) (sweep ns ns ids)) (held (ids_of ns) ids))
+    ⊎_elim (λ (m : held (ids_of ns) ids < held (ids_of ns) (sweep ns ns ids)). sweeps_closed k ns (sweep ns ns ids) (omega arith))
+    (λ (m : held (ids_of ns) (sweep ns ns ids) ≤ held (ids_of ns) ids). let c = closed_after ns ids m in rw (closed_sweeps k ns (sweep ns ns ids) c) c)
+    (cases_lt (held (ids_of ns) ids) (held (ids_of ns) (sweep ns ns ids)))
 
 reached_closed : (ns : List Node) → Closed ns (reached_ids ns)
 unfolding reached_ids first_id last_with targets_of

@@ -1,35 +1,23 @@
--- Tests, and laws of `among` and of ids joined to a list of them.
+-- Laws of `among` and of ids joined to a list of them.
 use mathlib.Core.Path.{◌≡◌, refl, sym, ap, ◌∙◌}
 use mathlib.Core.Bool.{Bool, true, false}
 use mathlib.Core.Logic.{◌⊎◌, inl, inr, ⊎_elim}
 use mathlib.Core.List.{List, [], ◌∷◌, ◌++◌}
-use Prim.Native.Nat.{ℕ, zero, suc, ◌≤◌, ◌<◌, zero-le, suc-le-suc}
+use Prim.Native.Nat.{ℕ, zero, suc, ◌<◌, zero-le, suc-le-suc}
 use native.Mathlib.Nat.{le_of_suc-le-suc, not-suc-le-zero}
-use native.Mathlib.Omega.{arith}
 use borrow.Author.Tests.{eq-eqb, eqb-true}
 use lib.Dec.{eqb}
 use lib.ListN.{length, get_or}
+use Rattle.std.proofs.lemmas.Bool.{both_ways, cases_Bool}
 use Rattle.wire.specs.Pick.{pick, either}
 use Rattle.flow.specs.Node.{among}
 use Rattle.flow.specs.Computed.{join}
-
-pub order : (a b : ℕ) → (a ≤ b) ⊎ (b < a)
-order zero b = inl zero-le
-order (suc a) zero = inr (suc-le-suc zero-le)
-order (suc a) (suc b) = ⊎_elim (λ (h : a ≤ b). inl (suc-le-suc h)) (λ (h : b < a). inr (suc-le-suc h)) (order a b)
-
-pub truth : (b : Bool) → (b ≡ true) ⊎ (b ≡ false)
-truth true = inl refl
-truth false = inr refl
-
-pub true_false : {b : Bool} → b ≡ true → b ≡ false → ⊥
-true_false {b} t f = let z : ◌≡◌ {A = Bool} true false = sym t ∙ f in let n : ◌≡◌ {A = ℕ} 0 1 = cc in omega arith
 
 -- ---- among
 
 pub among_none : (x : ℕ) → among x [] ≡ true → ⊥
 unfolding among
-among_none x h = true_false h refl
+among_none x h = both_ways false refl h
 
 pub among_first : (x y : ℕ) (l : List ℕ) → x ≡ y → among x (y ∷ l) ≡ true
 unfolding among
@@ -45,7 +33,7 @@ among_later x y l h = rw h (go (eqb x y))
 
 pub among_cases : (x y : ℕ) (l : List ℕ) → among x (y ∷ l) ≡ true → (x ≡ y) ⊎ (among x l ≡ true)
 unfolding among
-among_cases x y l h = ⊎_elim (λ (t : eqb x y ≡ true). inl (eqb-true x y t)) (λ (f : eqb x y ≡ false). inr (rw f at h)) (truth (eqb x y))
+among_cases x y l h = ⊎_elim (λ (t : eqb x y ≡ true). inl (eqb-true x y t)) (λ (f : eqb x y ≡ false). inr (rw f at h)) (cases_Bool (eqb x y))
 
 pub among_left : (x : ℕ) (l m : List ℕ) → among x l ≡ true → among x (l ++ m) ≡ true
 among_left x [] m h = absurd (among_none x h)
@@ -121,7 +109,7 @@ join_from x (t ∷ ts) ids h =
     (λ (b : among x (t ∷ []) ≡ true). ⊎_elim (λ (e : x ≡ t). inl (among_first x t ts e)) (λ (n : among x [] ≡ true). absurd (among_none x n)) (among_cases x t [] b))
     (among_append x ids (t ∷ []) k))
     (join_from x ts (ids ++ (t ∷ [])) (rw a at h)))
-    (truth (among t ids))
+    (cases_Bool (among t ids))
   where
     later : (l : List ℕ) → (among x ts ≡ true) ⊎ (among x l ≡ true) → (among x (t ∷ ts) ≡ true) ⊎ (among x l ≡ true)
     later l (inl k) = inl (among_later x t ts k)

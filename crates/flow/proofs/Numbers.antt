@@ -7,13 +7,14 @@ use Prim.Native.Nat.{ℕ, zero, suc, ◌+◌, ◌≤◌, ◌<◌, zero-le, suc-l
 use native.Mathlib.Nat.{le_of_suc-le-suc, not-suc-le-zero, add-zero, zero-add}
 use native.Mathlib.Omega.{arith}
 use borrow.Author.Tests.{eq-eqb, ne_eqb, eqb-true, eqb-false}
+use Rattle.std.proofs.lemmas.Bool.{cases_Bool}
 use lib.Dec.{eqb}
 use lib.ListN.{length, get_or}
 use lib.Seq.{ext_get_or}
 use Rattle.flow.specs.Node.{Node, among, found, none, or_this, last_with}
 use Rattle.flow.specs.Linked.{nodes_from, nodes, number_from}
 use Rattle.flow.specs.Way.{outs}
-use Rattle.flow.proofs.Members.{truth, among_place}
+use Rattle.flow.proofs.Members.{among_place}
 
 -- ---- the last place of an id
 
@@ -63,7 +64,7 @@ seek [] id = inr (record { never = λ j b q. not-suc-le-zero b })
 seek (x ∷ ids) id =
     ⊎_elim (λ (p : (k : ℕ) × Here ids id k). inl (suc p.0, here_later p.1))
     (λ (n : Nowhere ids id).
-    ⊎_elim (λ (t : eqb x id ≡ true). inl (0, here_first (eqb-true x id t) n)) (λ (f : eqb x id ≡ false). inr (nowhere_cons (eqb-false x id f) n)) (truth (eqb x id)))
+    ⊎_elim (λ (t : eqb x id ≡ true). inl (0, here_first (eqb-true x id t) n)) (λ (f : eqb x id ≡ false). inr (nowhere_cons (eqb-false x id f) n)) (cases_Bool (eqb x id)))
     (seek ids id)
 
 -- ---- the number of an id

@@ -1,20 +1,12 @@
 -- The walk over pending block numbers: what holds at each turn, and what is marked at the end.
-use mathlib.Core.Path.{◌≡◌, refl, sym, ap, ◌∙◌, subst}
-use mathlib.Core.Bool.{Bool, true, false}
-use mathlib.Core.Logic.{◌⊎◌, inl, inr, ⊎_elim}
-use mathlib.Core.List.{List, [], ◌∷◌}
-use Prim.Native.Nat.{ℕ, zero, suc, ◌+◌, ◌-◌, ◌*◌, ◌≤◌, ◌<◌, zero-le, suc-le-suc}
-use native.Mathlib.Nat.{le_of_suc-le-suc, not-suc-le-zero}
-use native.Mathlib.Omega.{arith}
-use borrow.Author.Tests.{eq-eqb, eqb-true, eqb-false}
-use lib.Dec.{eqb}
-use lib.ListN.{length, get_or, take, set, replicate, length-set}
-use lib.Seq.{sets, length-sets, length-take-le, take-set-lt, get_or-take, get_or-set_same, get_or-set_other}
-use Rattle.wire.specs.Pick.{pick}
+use Rattle.std.proofs.Common.{◌≡◌, ◌∙◌, refl, sym, ap, subst, ◌⊎◌, inl, inr, ⊎_elim, Bool, true, false, not, List, [], ◌∷◌, ◌++◌, ℕ, zero, suc, ◌+◌, ◌*◌, ◌≤◌, ◌<◌, length, get_or, take, set, cond, sum_by, All, Contains, length-set, length-append, length-take-le, get_or-take, get_or-set_same, get_or-set_other, not-suc-le-zero, arith}
+use Rattle.std.proofs.lemmas.Bool.{both_ways, cases_eq}
+use Rattle.std.proofs.lemmas.List.Elements.{All-append, All-contains, All-push, Contains-append_left, Contains-append_right, Contains-get_or, Contains-push, Contains-push_cases}
+use Rattle.std.proofs.lemmas.List.Sums.{count_by-le-length, sum_by-set}
+use Rattle.std.proofs.lemmas.List.{get_or_append_left, get_or_default}
+use lib.Seq.{take-set-lt}
 use Rattle.flow.specs.Linked.{targets_at}
 use Rattle.flow.specs.Way.{outs, Way, start, go, Clear, Marked}
-use Rattle.flow.proofs.Members.{order, truth}
-use Rattle.flow.proofs.Passes.{sets_before, sets_inside}
 
 -- ---- a block's targets
 
@@ -27,14 +19,14 @@ module _ (counts targets : List ℕ) (b : ℕ) where
   unfolding targets_at
   outs_one e = rw e
 
-  pub outs_two : (get_or counts b 0 ≡ 0 → ⊥) → (get_or counts b 0 ≡ 1 → ⊥) → outs counts targets b ≡ get_or targets (2 * b) 0 ∷ get_or targets (2 * b + 1) 0 ∷ []
+  pub outs_two : 2 ≤ get_or counts b 0 → outs counts targets b ≡ get_or targets (2 * b) 0 ∷ get_or targets (2 * b + 1) 0 ∷ []
   unfolding targets_at
   outs_two = by (get_or counts b 0)
     where
-      by : (c : ℕ) → (c ≡ 0 → ⊥) → (c ≡ 1 → ⊥) → targets_at c b targets ≡ get_or targets (2 * b) 0 ∷ get_or targets (2 * b + 1) 0 ∷ []
-      by zero f g = absurd (f refl)
-      by (suc zero) f g = absurd (g refl)
-      by (suc (suc c)) f g = refl
+      by : (c : ℕ) → 2 ≤ c → targets_at c b targets ≡ get_or targets (2 * b) 0 ∷ get_or targets (2 * b + 1) 0 ∷ []
+      by zero h = absurd (omega arith)
+      by (suc zero) h = absurd (omega arith)
+      by (suc (suc c)) h = refl
 
   outs_most : length (outs counts targets b) ≤ 2
   unfolding targets_at
@@ -45,174 +37,127 @@ module _ (counts targets : List ℕ) (b : ℕ) where
       by (suc zero) = omega arith
       by (suc (suc c)) = omega arith
 
--- ---- marks that are not set
-
-pub zeros : List ℕ → ℕ
-zeros [] = 0
-zeros (x ∷ l) = pick (eqb x 0) (suc (zeros l)) (zeros l)
-
-zeros_most : (l : List ℕ) → zeros l ≤ length l
-unfolding zeros
-zeros_most [] = zero-le
-zeros_most (x ∷ l) = by (eqb x 0) (zeros_most l)
-  where
-    by : (t : Bool) {m n : ℕ} → m ≤ n → pick t (suc m) m ≤ suc n
-    by true h = suc-le-suc h
-    by false h = omega arith
-
-pub clear : (n : ℕ) → Clear (replicate n 0)
-clear zero b = refl
-clear (suc n) zero = refl
-clear (suc n) (suc b) = clear n b
-
-zeros_mark : (l : List ℕ) (b : ℕ) → b < length l → get_or l b 0 ≡ 0 → zeros l ≡ suc (zeros (set l b 1))
-unfolding zeros
-zeros_mark [] b h e = absurd (not-suc-le-zero h)
-zeros_mark (x ∷ l) zero h e = rw (eq-eqb x 0 e)
-zeros_mark (x ∷ l) (suc b) h e = by (eqb x 0) (zeros_mark l b (le_of_suc-le-suc h) e)
-  where
-    by : (t : Bool) {m n : ℕ} → m ≡ suc n → pick t (suc m) m ≡ suc (pick t (suc n) n)
-    by true q = ap suc q
-    by false q = q
-
 -- ---- the walk
 
 -- a number that is no block's, is marked, or is pending
-pub data Seen (n : ℕ) (marks pending : List ℕ) (k t : ℕ) : Type 0 where
-  past : n ≤ t → Seen n marks pending k t
-  marked : get_or marks t 0 ≡ 1 → Seen n marks pending k t
-  waiting : (j : ℕ) → j < k → get_or pending j 0 ≡ t → Seen n marks pending k t
+pub data Seen (n : ℕ) (marks : List Bool) (pending : List ℕ) (t : ℕ) : Type 0 where
+  past : n ≤ t → Seen n marks pending t
+  marked : get_or marks t false ≡ true → Seen n marks pending t
+  waiting : Contains pending t → Seen n marks pending t
 
--- the measure: the marks of the n blocks that are not set
-abbrev pub unmarked : ℕ → List ℕ → ℕ
-unmarked n marks = zeros (take n marks)
+-- 1 for a mark that is not set
+abbrev pub unset : Bool → ℕ
+unset m = cond (not m) 1 0
 
-pub record Reaching (n first : ℕ) (counts targets marks pending : List ℕ) (k : ℕ) : Type 0 where
+-- the measure: how many of the n blocks' marks are not set
+abbrev pub unmarked : ℕ → List Bool → ℕ
+unmarked n marks = sum_by unset (take n marks)
+
+pub record Reaching (n first : ℕ) (counts targets : List ℕ) (marks : List Bool) (pending : List ℕ) : Type 0 where
   pub size : n ≤ length marks
-  pub room : 2 * n < length pending
-  pub few : k + 2 * unmarked n marks ≤ 2 * n + 1
-  pub waits : (j : ℕ) → j < k → Way n first counts targets (get_or pending j 0)
-  pub flag : (b : ℕ) → (get_or marks b 0 ≡ 0) ⊎ ((get_or marks b 0 ≡ 1) × Way n first counts targets b)
-  pub begun : Seen n marks pending k first
-  pub goes : (b : ℕ) → get_or marks b 0 ≡ 1 → (i : ℕ) → i < length (outs counts targets b) → Seen n marks pending k (get_or (outs counts targets b) i 0)
+  pub few : length pending + 2 * unmarked n marks ≤ 2 * n + 1
+  pub waits : All (Way n first counts targets) pending
+  pub flag : (b : ℕ) → (get_or marks b false ≡ false) ⊎ ((get_or marks b false ≡ true) × Way n first counts targets b)
+  pub begun : Seen n marks pending first
+  pub goes : (b : ℕ) → get_or marks b false ≡ true → (i : ℕ) → i < length (outs counts targets b) → Seen n marks pending (get_or (outs counts targets b) i 0)
 
-pub reaching_start : (n first : ℕ) (counts targets marks pending : List ℕ) → n ≤ length marks → 2 * n < length pending → Clear marks → Reaching n first counts targets marks (set pending 0 first) 1
-reaching_start n first counts targets marks pending s q h =
-    let e = get_or-set_same pending 0 first 0 (omega arith) in
-    record {
-      size = s;
-      room = omega (arith, length-set pending 0 first);
-      few = omega (arith, zeros_most (take n marks), length-take-le n marks s);
-      waits = λ j l. let z : j ≡ 0 = omega arith in rw (z, e) start;
-      flag = λ b. inl (h b);
-      begun = waiting 0 (omega arith) e;
-      goes = λ b l. absurd (omega (arith, l, h b));
-    }
+pub reaching_start : (n first : ℕ) (counts targets : List ℕ) (marks : List Bool) → n ≤ length marks → Clear marks → Reaching n first counts targets marks (first ∷ [])
+reaching_start n first counts targets marks s h = record {
+  size = s;
+  few = omega (arith, count_by-le-length not (take n marks), length-take-le n marks s);
+  waits = All-push (Way n first counts targets) [] first (λ k d l. absurd (not-suc-le-zero l)) start;
+  flag = λ b. inl (h b);
+  begun = waiting (Contains-push [] first);
+  goes = λ b l. absurd (both_ways (get_or marks b false) (h b) l);
+}
 
-module _ {n first : ℕ} {counts targets marks pending : List ℕ} {k : ℕ} (r : Reaching n first counts targets marks pending k) (0<k : 0 < k) where
-  pop : {t : ℕ} → Seen n marks pending (k - 1) (get_or pending (k - 1) 0) → Seen n marks pending k t → Seen n marks pending (k - 1) t
-  pop s (past h) = past h
-  pop s (marked h) = marked h
-  pop s (waiting j h e) =
-      ⊎_elim (λ (q : k - 1 ≤ j). let z : k - 1 ≡ j = omega arith in subst (Seen n marks pending (k - 1)) (ap (λ (i : ℕ). get_or pending i 0) z ∙ e) s)
-      (λ (q : j < k - 1). waiting j q e) (order (k - 1) j)
+-- a pending number is taken
+module _ {n first : ℕ} {counts targets : List ℕ} {marks : List Bool} (rest : List ℕ) (b : ℕ) (r : Reaching n first counts targets marks (rest ++ b ∷ [])) where
+  popped : {t : ℕ} → Seen n marks rest b → Seen n marks (rest ++ b ∷ []) t → Seen n marks rest t
+  popped s (past h) = past h
+  popped s (marked h) = marked h
+  popped {t} s (waiting h) =
+      ⊎_elim (λ (c : Contains rest t). waiting c) (λ (e : b ≡ t). subst (Seen n marks rest) e s) (Contains-push_cases rest b t h)
 
-  -- a pending number is taken that is seen without it
-  skip : Seen n marks pending (k - 1) (get_or pending (k - 1) 0) → Reaching n first counts targets marks pending (k - 1)
-  skip s =
-      record {
-        size = r.size;
-        room = r.room;
-        few = omega (arith, r.few);
-        waits = λ j h. r.waits j (omega arith);
-        flag = r.flag;
-        begun = pop s r.begun;
-        goes = λ b h i q. pop s (r.goes b h i q);
-      }
+  rest_waits : All (Way n first counts targets) rest
+  rest_waits k d l = subst (Way n first counts targets) (get_or_append_left rest (b ∷ []) d k l) (r.waits k d (omega (arith, length-append rest (b ∷ []))))
 
-  pub skip_past : {b : ℕ} → b ≡ get_or pending (k - 1) 0 → n ≤ b → Reaching n first counts targets marks pending (k - 1)
-  skip_past e h = skip (past (omega (arith, e)))
+  -- it is seen without it
+  skip : Seen n marks rest b → Reaching n first counts targets marks rest
+  skip s = record {
+    size = r.size;
+    few = omega (arith, r.few, length-append rest (b ∷ []));
+    waits = rest_waits;
+    flag = r.flag;
+    begun = popped s r.begun;
+    goes = λ c h i q. popped s (r.goes c h i q);
+  }
 
-  pub skip_marked : {b : ℕ} → b ≡ get_or pending (k - 1) 0 → (get_or marks b 0 ≡ 0 → ⊥) → Reaching n first counts targets marks pending (k - 1)
-  skip_marked {b} e f =
-      skip (subst (Seen n marks pending (k - 1)) e
-      (⊎_elim (λ (z : get_or marks b 0 ≡ 0). absurd (f z)) (λ (z : (get_or marks b 0 ≡ 1) × Way n first counts targets b). marked z.0) (r.flag b)))
+  pub skip_past : n ≤ b → Reaching n first counts targets marks rest
+  skip_past h = skip (past h)
 
-  -- a pending number is taken that is not marked
-  module _ {b : ℕ} (taken : b ≡ get_or pending (k - 1) 0) (small : b < n) (fresh : get_or marks b 0 ≡ 0) where
+  pub skip_marked : get_or marks b false ≡ true → Reaching n first counts targets marks rest
+  skip_marked h = skip (marked h)
+
+  -- it is not marked
+  module _ (small : b < n) (fresh : get_or marks b false ≡ false) where
     way_b : Way n first counts targets b
-    way_b = subst (Way n first counts targets) (sym taken) (r.waits (k - 1) (omega arith))
+    way_b = All-contains (Way n first counts targets) (rest ++ b ∷ []) b r.waits (Contains-push rest b)
 
     -- one mark fewer is not set
-    fewer : unmarked n marks ≡ suc (unmarked n (set marks b 1))
+    fewer : unmarked n marks ≡ suc (unmarked n (set marks b true))
     fewer =
-        rw (take-set-lt n marks b 1 small)
-        (zeros_mark (take n marks) b (omega (arith, length-take-le n marks r.size)) (get_or-take n marks b 0 small ∙ fresh))
+        let l = length-take-le n marks r.size in
+        rw (take-set-lt n marks b true small) (omega (arith, sum_by-set unset (take n marks) b true false (omega (arith, l)), ap unset (get_or-take n marks b false small ∙ fresh)))
 
     -- there is room for two
-    pub visit_room : k - 1 + 2 ≤ length pending
-    visit_room = omega (arith, r.few, r.room, fewer)
+    pub visit_room : length rest + 2 ≤ 2 * n + 1
+    visit_room = omega (arith, r.few, fewer, length-append rest (b ∷ []))
 
-    fits : k - 1 + length (outs counts targets b) ≤ length pending
-    fits = omega (arith, outs_most counts targets b, visit_room)
+    pub visit_less : 2 * unmarked n (set marks b true) + length (rest ++ outs counts targets b) < 2 * unmarked n marks + length (rest ++ b ∷ [])
+    visit_less = omega (arith, outs_most counts targets b, fewer, length-append rest (outs counts targets b), length-append rest (b ∷ []))
 
-    pub visit_less : 2 * unmarked n (set marks b 1) + (k - 1 + length (outs counts targets b)) < 2 * unmarked n marks + k
-    visit_less = omega (arith, outs_most counts targets b, fewer)
+    mark_other : (t : ℕ) → (t ≡ b → ⊥) → get_or (set marks b true) t false ≡ get_or marks t false
+    mark_other t f = get_or-set_other marks b t true false f
 
-    mark_other : (t : ℕ) → (t ≡ b → ⊥) → get_or (set marks b 1) t 0 ≡ get_or marks t 0
-    mark_other t f = get_or-set_other marks b t 1 0 f
+    mark_b : (t : ℕ) → t ≡ b → get_or (set marks b true) t false ≡ true
+    mark_b t e = rw e (get_or-set_same marks b true false (omega (arith, r.size)))
 
-    mark_b : (t : ℕ) → t ≡ b → get_or (set marks b 1) t 0 ≡ 1
-    mark_b t e = rw e (get_or-set_same marks b 1 0 (omega (arith, r.size)))
-
-    push : {t : ℕ} → Seen n marks pending k t → Seen n (set marks b 1) (sets pending (k - 1) (outs counts targets b)) (k - 1 + length (outs counts targets b)) t
+    push : {t : ℕ} → Seen n marks (rest ++ b ∷ []) t → Seen n (set marks b true) (rest ++ outs counts targets b) t
     push (past h) = past h
-    push {t} (marked h) = marked (mark_other t (λ e. let z = rw e at h in omega (arith, z, fresh)) ∙ h)
-    push {t} (waiting j h e) =
-        ⊎_elim (λ (q : k - 1 ≤ j). let z : j ≡ k - 1 = omega arith in marked (mark_b t (sym e ∙ ap (λ (i : ℕ). get_or pending i 0) z ∙ sym taken)))
-        (λ (q : j < k - 1). waiting j (omega arith) (sets_before (outs counts targets b) pending (k - 1) j q ∙ e)) (order (k - 1) j)
+    push {t} (marked h) = marked (mark_other t (λ e. both_ways (get_or marks t false) (rw e fresh) h) ∙ h)
+    push {t} (waiting h) =
+        ⊎_elim (λ (c : Contains rest t). waiting (Contains-append_left rest (outs counts targets b) t c)) (λ (e : b ≡ t). marked (mark_b t (sym e))) (Contains-push_cases rest b t h)
 
-    pub reaching_visit : Reaching n first counts targets (set marks b 1) (sets pending (k - 1) (outs counts targets b)) (k - 1 + length (outs counts targets b))
-    reaching_visit =
-        record {
-          size = rw (length-set marks b 1) r.size;
-          room = rw (length-sets pending (k - 1) (outs counts targets b)) r.room;
-          few = omega (arith, r.few, outs_most counts targets b, fewer);
-          waits = λ j h.
-              ⊎_elim (λ (q : k - 1 ≤ j).
-              let i = j - (k - 1) in
-              let l : i < length (outs counts targets b) = omega arith in
-              let e : k - 1 + i ≡ j = omega arith in
-              subst (Way n first counts targets) (sym (sets_inside (outs counts targets b) pending (k - 1) i l fits) ∙ ap (λ (u : ℕ). get_or (sets pending (k - 1) (outs counts targets b)) u 0) e) (go way_b small i l))
-              (λ (q : j < k - 1). rw (sets_before (outs counts targets b) pending (k - 1) j q) (r.waits j (omega arith))) (order (k - 1) j);
-          flag = λ t.
-              ⊎_elim (λ (e : eqb t b ≡ true). inr (mark_b t (eqb-true t b e), subst (Way n first counts targets) (sym (eqb-true t b e)) way_b))
-              (λ (e : eqb t b ≡ false). rw (mark_other t (eqb-false t b e)) (r.flag t)) (truth (eqb t b));
-          begun = push r.begun;
-          goes = λ t h i l.
-              ⊎_elim (λ (e : eqb t b ≡ true).
-              let z = eqb-true t b e in
-              subst (λ (u : ℕ). Seen n (set marks b 1) (sets pending (k - 1) (outs counts targets b)) (k - 1 + length (outs counts targets b)) (get_or (outs counts targets u) i 0)) (sym z)
-              (waiting (k - 1 + i) (omega (arith, rw z at l)) (sets_inside (outs counts targets b) pending (k - 1) i (rw z at l) fits)))
-              (λ (e : eqb t b ≡ false). push (r.goes t (sym (mark_other t (eqb-false t b e)) ∙ h) i l)) (truth (eqb t b));
-        }
+    pub reaching_visit : Reaching n first counts targets (set marks b true) (rest ++ outs counts targets b)
+    reaching_visit = record {
+      size = rw (length-set marks b true) r.size;
+      few = omega (arith, r.few, outs_most counts targets b, fewer, length-append rest (outs counts targets b), length-append rest (b ∷ []));
+      waits = All-append (Way n first counts targets) rest (outs counts targets b) rest_waits (λ k d l. subst (Way n first counts targets) (get_or_default (outs counts targets b) k 0 d l) (go way_b small k l));
+      flag = λ t.
+          ⊎_elim (λ (e : t ≡ b). inr (mark_b t e, subst (Way n first counts targets) (sym e) way_b)) (λ (f : t ≡ b → ⊥). rw (mark_other t f) (r.flag t))
+          (cases_eq t b);
+      begun = push r.begun;
+      goes = λ t h i l.
+          ⊎_elim (λ (e : t ≡ b). waiting (Contains-append_right rest (outs counts targets b) (get_or (outs counts targets t) i 0) (subst (λ (u : ℕ). Contains (outs counts targets b) (get_or (outs counts targets u) i 0)) (sym e) (Contains-get_or (outs counts targets b) i 0 (rw e at l))))) (λ (f : t ≡ b → ⊥). push (r.goes t (sym (mark_other t f) ∙ h) i l))
+          (cases_eq t b);
+    }
 
 -- ---- the end
 
-module _ {n first : ℕ} {counts targets marks pending : List ℕ} (r : Reaching n first counts targets marks pending 0) where
-  settled : {t : ℕ} → Seen n marks pending 0 t → t < n → get_or marks t 0 ≡ 1
+module _ {n first : ℕ} {counts targets : List ℕ} {marks : List Bool} (r : Reaching n first counts targets marks []) where
+  settled : {t : ℕ} → Seen n marks [] t → t < n → get_or marks t false ≡ true
   settled (past h) l = absurd (omega arith)
   settled (marked h) l = h
-  settled (waiting j h e) l = absurd (not-suc-le-zero h)
+  settled (waiting h) l = absurd (not-suc-le-zero h.1)
 
-  all_marked : {b : ℕ} → Way n first counts targets b → b < n → get_or marks b 0 ≡ 1
+  all_marked : {b : ℕ} → Way n first counts targets b → b < n → get_or marks b false ≡ true
   all_marked start l = settled r.begun l
   all_marked (go {b} w s i h) l = settled (r.goes b (all_marked w s) i h) l
 
   pub reaching_end : Marked n first counts targets marks
-  reaching_end =
-      record {
-        each = λ b h.
-            ⊎_elim (λ (z : get_or marks b 0 ≡ 0). inr (z, λ w. omega (arith, z, all_marked w h)))
-            (λ (z : (get_or marks b 0 ≡ 1) × Way n first counts targets b). inl z) (r.flag b);
-      }
+  reaching_end = record {
+    each = λ b h.
+        ⊎_elim (λ (z : get_or marks b false ≡ false). inr (z, λ w. both_ways (get_or marks b false) z (all_marked w h)))
+        (λ (z : (get_or marks b false ≡ true) × Way n first counts targets b). inl z) (r.flag b);
+  }

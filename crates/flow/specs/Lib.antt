@@ -5,3 +5,4 @@ pub mod Linked
 pub mod Keys
 pub mod Places
 pub mod Way
+pub mod Sizes

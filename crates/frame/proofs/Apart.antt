@@ -14,7 +14,7 @@ use lib.Signed.{◌≤ℤ◌}
 use Rattle.wire.specs.Pick.{pick}
 use Rattle.frame.specs.Cell.{offset_of, cell_from, frame_of}
 use Rattle.frame.specs.Apart.{InFrame, Apart, Disjoint}
-use Rattle.frame.specs.declared.Cell.TheVariants.{At}
+use Rattle.std.specs.Prelude.{Some}
 
 -- ---- offsets by their numbers
 
@@ -45,12 +45,12 @@ record Found (i : ℕ) (vs : List ℕ) (v : ℕ) (a : ℤ) : Type 0 where
   holds : get_or vs place 0 ≡ v
   offset : a ≡ offset_of (i + place)
 
-found : (i : ℕ) (vs : List ℕ) (v : ℕ) (a : ℤ) → cell_from i vs v ≡ At a → Found i vs v a
+found : (i : ℕ) (vs : List ℕ) (v : ℕ) (a : ℤ) → cell_from i vs v ≡ Some a → Found i vs v a
 unfolding cell_from
 found i [] v a e = let z : ◌≡◌ {A = ℕ} 0 1 = cc in absurd (omega arith)
 found i (x ∷ xs) v a e = go (eqb v x) refl (found (suc i) xs v a) e
   where
-    go : (t : Bool) → eqb v x ≡ t → (cell_from (suc i) xs v ≡ At a → Found (suc i) xs v a) → pick t (At (offset_of i)) (cell_from (suc i) xs v) ≡ At a → Found i (x ∷ xs) v a
+    go : (t : Bool) → eqb v x ≡ t → (cell_from (suc i) xs v ≡ Some a → Found (suc i) xs v a) → pick t (Some (offset_of i)) (cell_from (suc i) xs v) ≡ Some a → Found i (x ∷ xs) v a
     go true t later e = record { place = 0; within = omega arith; holds = sym (eqb-true v x t); offset = cc (add-zero i) }
     go false t later e =
         let p = later e in

@@ -11,11 +11,10 @@ use lib.Seq.{drop-cons}
 use Rattle.wire.specs.Pick.{pick, both}
 use Rattle.frame.specs.Cell.{offset_of, cell_at, cell_from, frame_of}
 use Rattle.frame.specs.Hint.{index_from, guess, stands, index_by, frame_by, hints_from}
-use Rattle.frame.specs.declared.Cell.{Cell}
-use Rattle.frame.specs.declared.Cell.TheVariants.{At}
 use Rattle.frame.proofs.Search.{cell_of_index, Stands, found_stands}
 use Rattle.frame.specs.Variables.{Sorted}
 use Rattle.frame.proofs.Sorted.{index_there}
+use Rattle.std.specs.Prelude.{Option, Some, ℤ}
 
 -- what a guess that is verified says
 stands_means : (vs : List ℕ) (i v : ℕ) → stands vs i v ≡ true → Stands vs i v
@@ -47,7 +46,7 @@ module _ (vs hs : List ℕ) (v : ℕ) where
   unfolding frame_by index_by cell_at
   guessed_cell = go (stands vs (guess hs v) v) refl
     where
-      go : (t : Bool) → stands vs (guess hs v) v ≡ t → cell_at (length vs) (pick t (guess hs v) (index_from 0 vs v)) ≡ pick t (At (offset_of (guess hs v))) (cell_from 0 vs v)
+      go : (t : Bool) → stands vs (guess hs v) v ≡ t → cell_at (length vs) (pick t (guess hs v) (index_from 0 vs v)) ≡ pick t (Some (offset_of (guess hs v))) (cell_from 0 vs v)
       go true e = rw (lt-ltb (guess hs v) (length vs) (stands_means vs (guess hs v) v e).within)
       go false e = sym (cell_of_index vs v)
 
@@ -79,7 +78,7 @@ module _ (vs hs : List ℕ) (sorted : Sorted vs) where
 
   pub frame_by_lem : frame_by vs hs ≡ frame_of vs
   unfolding frame_by frame_of
-  frame_by_lem = ap (λ (c : ℕ → Cell). record { cell = c; scratch = λ (j : ℕ). offset_of (length vs + j % 8) }) (fun_ext cell_same)
+  frame_by_lem = ap (λ (c : ℕ → Option ℤ). record { cell = c; scratch = λ (j : ℕ). offset_of (length vs + j % 8) }) (fun_ext cell_same)
 
 -- ---- the table, variable by variable
 

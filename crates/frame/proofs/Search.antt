@@ -1,30 +1,34 @@
 -- A variable's index, searched for from the front, and its cell.
 use mathlib.Core.Path.{◌≡◌, refl}
-use mathlib.Core.Bool.{Bool, true, false}
+use mathlib.Core.Bool.{Bool, true, false, cond, not}
+use Rattle.std.specs.List.{position_or_len}
+use Rattle.std.proofs.lemmas.List.Sums.{position_or_len_is}
 use mathlib.Core.List.{List, [], ◌∷◌}
 use Prim.Native.Nat.{ℕ, zero, suc, ◌+◌, ◌<◌, ◌≤◌}
 use native.Mathlib.Omega.{arith}
 use borrow.Author.Tests.{eq-eqb, ne_eqb, lt-ltb, le-ltb, eqb-true}
 use lib.Dec.{eqb}
-use lib.ListN.{length, drop, get_or, drop_of_length-le}
-use lib.Seq.{drop-cons}
+use lib.ListN.{length, get_or}
 use Rattle.wire.specs.Pick.{pick}
 use Rattle.frame.specs.Cell.{offset_of, cell_at, cell_from}
 use Rattle.frame.specs.Hint.{index_from}
-use Rattle.frame.specs.declared.Cell.TheVariants.{At}
+use Rattle.std.specs.Prelude.{Some}
 
-module _ (l : List ℕ) (v i : ℕ) where
-  pub here : i < length l → v ≡ get_or l i 0 → index_from i (drop i l) v ≡ i
-  unfolding index_from
-  here h e = rw (drop-cons l i 0 h, eq-eqb v (get_or l i 0) e)
+-- what `position` looks for
+index_position : (v i : ℕ) (l : List ℕ) → index_from i l v ≡ i + position_or_len (λ x. eqb v x) l
+unfolding index_from
+index_position v i [] = omega arith
+index_position v i (x ∷ l) = go (eqb v x) (index_position v (suc i) l)
+  where
+    go : (t : Bool) → index_from (suc i) l v ≡ suc i + position_or_len (λ x. eqb v x) l → pick t i (index_from (suc i) l v) ≡ i + cond (not t) (1 + position_or_len (λ x. eqb v x) l) 0
+    go true e = omega arith
+    go false e = omega arith
 
-  pub further : i < length l → (v ≡ get_or l i 0 → ⊥) → index_from i (drop i l) v ≡ index_from (suc i) (drop (suc i) l) v
-  unfolding index_from
-  further h n = rw (drop-cons l i 0 h, ne_eqb v (get_or l i 0) n)
-
-  pub nowhere : length l ≤ i → index_from i (drop i l) v ≡ i
-  unfolding index_from
-  nowhere h = rw (drop_of_length-le l {i = i} h)
+-- the first place of v
+pub first_index : (v : ℕ) (l : List ℕ) (p : ℕ) → p ≤ length l → ((k : ℕ) → k < p → v ≡ get_or l k 0 → ⊥) → (p < length l → v ≡ get_or l p 0) → p ≡ index_from 0 l v
+first_index v l p h f s =
+    let first = position_or_len_is (λ x. eqb v x) l p 0 h (λ k b. ne_eqb v (get_or l k 0) (f k b)) (λ b. eq-eqb v (get_or l p 0) (s b)) in
+    omega (arith, index_position v 0 l)
 
 -- the cell is that of the index
 cell_from_lem : (i : ℕ) (l : List ℕ) (v n : ℕ) → n ≡ i + length l → cell_from i l v ≡ cell_at n (index_from i l v)
@@ -32,7 +36,7 @@ unfolding cell_from cell_at index_from
 cell_from_lem i [] v n e = rw (le-ltb i n (omega arith))
 cell_from_lem i (x ∷ xs) v n e = go (eqb v x) (cell_from_lem (suc i) xs v n (omega arith))
   where
-    go : (t : Bool) → cell_from (suc i) xs v ≡ cell_at n (index_from (suc i) xs v) → pick t (At (offset_of i)) (cell_from (suc i) xs v) ≡ cell_at n (pick t i (index_from (suc i) xs v))
+    go : (t : Bool) → cell_from (suc i) xs v ≡ cell_at n (index_from (suc i) xs v) → pick t (Some (offset_of i)) (cell_from (suc i) xs v) ≡ cell_at n (pick t i (index_from (suc i) xs v))
     go true q = rw (lt-ltb i n (omega arith))
     go false q = q
 

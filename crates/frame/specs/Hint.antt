@@ -1,8 +1,7 @@
 -- A variable's index among the sorted variables, guessed by a table and verified; where the guess is wrong, searched for.
-use Rattle.std.specs.Prelude.{ℕ, suc, ◌+◌, ◌%◌, Bool, List, [], ◌∷◌, eqb, ltb, length, get_or, set}
+use Rattle.std.specs.Prelude.{ℕ, suc, ◌+◌, ◌%◌, Bool, List, [], ◌∷◌, eqb, ltb, length, get_or, set, Some}
 use Rattle.wire.specs.Pick.{pick, both}
 use Rattle.frame.specs.Cell.{Frame, offset_of, cell_from}
-use Rattle.frame.specs.declared.Cell.TheVariants.{At}
 
 -- the first index of a variable, counted from i; the index after the last for none
 unfoldable pub index_from : ℕ → List ℕ → ℕ → ℕ
@@ -23,7 +22,7 @@ index_by variables hints v = pick (stands variables (guess hints v) v) (guess hi
 unfoldable pub frame_by : List ℕ → List ℕ → Frame
 frame_by variables hints =
     record {
-      cell = λ v. pick (stands variables (guess hints v) v) (At (offset_of (guess hints v))) (cell_from 0 variables v);
+      cell = λ v. pick (stands variables (guess hints v) v) (Some (offset_of (guess hints v))) (cell_from 0 variables v);
       scratch = λ j. offset_of (length variables + j % 8);
     }
 

@@ -1,4 +1,5 @@
 pub mod Variables
 pub mod Cell
 pub mod Hint
+pub mod Lent
 pub mod Apart

@@ -1,50 +1,64 @@
 // Where a variable stands, guessed: a table of 256 numbers, of which v % 256 picks the one to try. A guess that is wrong costs a search and changes no answer.
 ghost use Rattle.std.specs.Prelude.{◌≡◌};
-ghost use Rattle.frame.specs.Hint.{index_from, index_by, frame_by, hints_of};
+ghost use Rattle.frame.specs.Hint.{index_from, hints_of};
+ghost use Rattle.frame.specs.Lent.{index_in, frame_in};
 
-use crate::{Cell, cell_by_index};
+use crate::{cell_by_index, offset};
 use wire::range::wide8;
 
 // The first index of v, or the number of variables for none.
 fn find(variables: &[u32], v: u32) -> usize
     ensures { result ≡ index_from 0 variables.now v }
 {
-    let mut i = 0;
-    while i < variables.len() {
-        if v == variables[i] {
-            return i;
-        }
-        i += 1;
-    }
-    i
+    variables
+        .iter()
+        .position(|x| v == *x)
+        .unwrap_or(variables.len())
 }
 
-// The guess, where v stands there; else the first index of v, or the number of variables for none.
-pub fn index_at(variables: &[u32], hints: &[u8; 256], v: u32) -> usize
-    ensures { result ≡ index_by variables.now hints.now v }
-{
-    let guess = wide8(hints[(v % 256) as usize]);
-    if guess < variables.len() {
-        if v == variables[guess] {
-            return guess;
-        }
-    }
-    find(variables, v)
+// The sorted variables of a unit, whose cells are its frame, and what guesses where one of them stands.
+#[derive(Clone, Copy)]
+pub struct Frame<'a> {
+    pub variables: &'a [u32],
+    pub hints: &'a [u8; 256],
 }
 
-pub fn cell_at(variables: &[u32], hints: &[u8; 256], v: u32) -> Cell
-    ensures { result ≡ (frame_by variables.now hints.now).cell v }
-{
-    cell_by_index(variables.len(), index_at(variables, hints, v))
+impl Frame<'_> {
+    // The guess, where v stands there; else the first index of v, or the number of variables for none.
+    pub fn index(self, v: u32) -> usize
+        ensures { result ≡ index_in self.entry v }
+    {
+        let variables = self.variables;
+        let guess = wide8(self.hints[(v % 256) as usize]);
+        if guess < variables.len() {
+            if v == variables[guess] {
+                return guess;
+            }
+        }
+        find(variables, v)
+    }
+
+    // The cell of v.
+    pub fn cell(self, v: u32) -> Option<i16>
+        ensures { result ≡ (frame_in self.entry).cell v }
+    {
+        cell_by_index(self.variables.len(), self.index(v))
+    }
+
+    // The offset of scratch j of the ring.
+    #[tactic(auto, unfolding(crate::specs::Hint::frame_by, crate::specs::Cell::offset_of))]
+    pub fn scratch(self, j: u8) -> i16
+        ensures { result ≡ (frame_in self.entry).scratch j }
+    {
+        offset(self.variables.len() % 64 + (j % 8) as usize)
+    }
 }
 
 // The index of each variable, where v % 256 looks for it; of two that are looked for in one place, the later.
 pub fn put_hints(variables: &[u32], hints: &mut [u8; 256])
     ensures { hints.new ≡ hints_of variables.now hints.old }
 {
-    let mut k = 0;
-    while k < variables.len() {
-        hints[(variables[k] % 256) as usize] = (k % 256) as u8;
-        k += 1;
+    for (k, v) in variables.iter().enumerate() {
+        hints[(*v % 256) as usize] = (k % 256) as u8;
     }
 }

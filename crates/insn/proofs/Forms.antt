@@ -3,107 +3,69 @@ use mathlib.Core.Path.{◌≡◌, refl, sym, ap, ◌∙◌}
 use mathlib.Core.Bool.{Bool, true, false}
 use mathlib.Core.Logic.{◌↔◌, ◌≢◌}
 use mathlib.Core.List.{List, [], ◌∷◌}
-use Prim.Native.Nat.{ℕ, ◌+◌, ◌*◌, ◌/◌, ◌%◌, ◌<◌, ◌≤◌}
-use native.Mathlib.Omega.{arith}
-use lib.Dec.{T, eqb, ltb, eqb→eq}
-use lib.ListN.{get_or, get_or-eq_default}
-use borrow.Author.Tests.{eqb-true, ltb-true, ltb-false}
-use Rattle.wire.specs.Pick.{pick}
+use Prim.Native.Nat.{ℕ, ◌<◌}
+use lib.Dec.{T, eqb, eqb→eq}
+use Rattle.std.specs.List.{list_any}
+use Rattle.wire.specs.Pick.{implies}
 use Rattle.ir.specs.declared.BinaryOp.TheVariants.{Add, Sub, Mul, Div, Mod, Shl, Shr}
 use Rattle.insn.specs.Rfc.{operation_of, size_field}
-use Rattle.insn.specs.Form.{opcode_of, form_of, number_of, forms_below, sizes, with_constant, with_register, jumps}
+use Rattle.insn.specs.Form.{opcode_of, form_of, is_form, forms_below, sizes, with_constant, with_register, jumps}
 use Rattle.insn.specs.declared.form.Size.TheVariants.{W, H, B, Dw}
 use Rattle.insn.specs.declared.form.Form.{Form}
 use Rattle.insn.specs.declared.form.Form.TheVariants.{NoForm, WideLoad, Ldx, Stx, AluImm, AluReg, MovImm, MovReg, Ja, JeqImm, JneImm, Call, Exit}
-use Rattle.insn.proofs.Table.{every, each, listed, listed_at}
-
--- ---- forms by number
-
-unfoldable pub kinds : List Form
-kinds = NoForm ∷ WideLoad ∷ Ldx W ∷ Ldx H ∷ Ldx B ∷ Ldx Dw ∷ Stx W ∷ Stx H ∷ Stx B ∷ Stx Dw ∷ AluImm Add ∷ AluImm Sub ∷ AluImm Mul ∷ AluImm Div ∷ AluImm Mod ∷ AluImm Shl ∷ AluImm Shr ∷ AluReg Add ∷ AluReg Sub ∷ AluReg Mul ∷ AluReg Div ∷ AluReg Mod ∷ AluReg Shl ∷ AluReg Shr ∷ MovImm ∷ MovReg ∷ Ja ∷ JeqImm ∷ JneImm ∷ Call ∷ Exit ∷ []
-
-abbrev pub kind : ℕ → Form
-kind n = get_or kinds n NoForm
-
-pub numbered : (f : Form) → kind (number_of f) ≡ f
-unfolding kinds number_of size_field
-numbered NoForm = refl
-numbered WideLoad = refl
-numbered (Ldx W) = refl
-numbered (Ldx H) = refl
-numbered (Ldx B) = refl
-numbered (Ldx Dw) = refl
-numbered (Stx W) = refl
-numbered (Stx H) = refl
-numbered (Stx B) = refl
-numbered (Stx Dw) = refl
-numbered (AluImm Add) = refl
-numbered (AluImm Sub) = refl
-numbered (AluImm Mul) = refl
-numbered (AluImm Div) = refl
-numbered (AluImm Mod) = refl
-numbered (AluImm Shl) = refl
-numbered (AluImm Shr) = refl
-numbered (AluReg Add) = refl
-numbered (AluReg Sub) = refl
-numbered (AluReg Mul) = refl
-numbered (AluReg Div) = refl
-numbered (AluReg Mod) = refl
-numbered (AluReg Shl) = refl
-numbered (AluReg Shr) = refl
-numbered MovImm = refl
-numbered MovReg = refl
-numbered Ja = refl
-numbered JeqImm = refl
-numbered JneImm = refl
-numbered Call = refl
-numbered Exit = refl
-
-pub few : (f : Form) → number_of f < 31
-unfolding kinds number_of
-few f = go (ltb (number_of f) 31) refl
-  where
-    go : (t : Bool) → ltb (number_of f) 31 ≡ t → number_of f < 31
-    go true e = ltb-true _ _ e
-    go false e =
-        let past : 31 ≤ number_of f = ltb-false _ _ e in
-        let none : number_of f ≡ 0 = ap number_of (sym (numbered f) ∙ get_or-eq_default kinds NoForm past) in
-        omega arith
-
--- ---- forms and opcode bytes
-
-same : (f g : Form) → number_of f ≡ number_of g → f ≡ g
-same f g e = sym (numbered f) ∙ ap kind e ∙ numbered g
+use Rattle.insn.proofs.Table.{every, each}
 
 -- the fields of a form's opcode byte are the form's
-fields_right : ℕ → Bool
-fields_right n = eqb (number_of (form_of (opcode_of (kind n)))) n
-
-fields_all : T (every fields_right 31)
-unfolding fields_right kinds opcode_of form_of number_of operation_of size_field sizes with_constant with_register jumps
-fields_all = tt
-
 pub form_opcode : (f : Form) → form_of (opcode_of f) ≡ f
-unfolding fields_right
-form_opcode f =
-    let e = eqb→eq _ _ (each fields_right 31 fields_all (number_of f) (few f)) in
-    same _ _ (ap (λ (g : Form). number_of (form_of (opcode_of g))) (sym (numbered f)) ∙ e)
+unfolding opcode_of form_of operation_of size_field sizes with_constant with_register jumps
+form_opcode NoForm = refl
+form_opcode WideLoad = refl
+form_opcode (Ldx W) = refl
+form_opcode (Ldx H) = refl
+form_opcode (Ldx B) = refl
+form_opcode (Ldx Dw) = refl
+form_opcode (Stx W) = refl
+form_opcode (Stx H) = refl
+form_opcode (Stx B) = refl
+form_opcode (Stx Dw) = refl
+form_opcode (AluImm Add) = refl
+form_opcode (AluImm Sub) = refl
+form_opcode (AluImm Mul) = refl
+form_opcode (AluImm Div) = refl
+form_opcode (AluImm Mod) = refl
+form_opcode (AluImm Shl) = refl
+form_opcode (AluImm Shr) = refl
+form_opcode (AluReg Add) = refl
+form_opcode (AluReg Sub) = refl
+form_opcode (AluReg Mul) = refl
+form_opcode (AluReg Div) = refl
+form_opcode (AluReg Mod) = refl
+form_opcode (AluReg Shl) = refl
+form_opcode (AluReg Shr) = refl
+form_opcode MovImm = refl
+form_opcode MovReg = refl
+form_opcode Ja = refl
+form_opcode JeqImm = refl
+form_opcode JneImm = refl
+form_opcode Call = refl
+form_opcode Exit = refl
 
 -- a byte that has a form is that form's opcode
 right : ℕ → Bool
-right c = pick (eqb (number_of (form_of c)) 0) true (eqb (opcode_of (form_of c)) c)
+right c = implies (is_form (form_of c)) (eqb (opcode_of (form_of c)) c)
 
 right_all : T (every right 256)
-unfolding right opcode_of form_of number_of operation_of size_field sizes with_constant with_register jumps
+unfolding right is_form opcode_of form_of operation_of size_field sizes with_constant with_register jumps
 right_all = tt
 
+formed : (f : Form) → f ≢ NoForm → is_form f ≡ true
+unfolding is_form
+formed NoForm n = absurd (n refl)
+formed f n = refl
+
 opcode_form : (c : ℕ) → c < 256 → form_of c ≢ NoForm → opcode_of (form_of c) ≡ c
-unfolding right number_of
-opcode_form c h n = go (eqb (number_of (form_of c)) 0) refl (each right 256 right_all c h)
-  where
-    go : (t : Bool) → eqb (number_of (form_of c)) 0 ≡ t → T (pick t true (eqb (opcode_of (form_of c)) c)) → opcode_of (form_of c) ≡ c
-    go true e t = absurd (n (same (form_of c) NoForm (eqb-true _ _ e)))
-    go false e t = eqb→eq (opcode_of (form_of c)) c t
+unfolding right
+opcode_form c h n = let t = each right 256 right_all c h in eqb→eq (opcode_of (form_of c)) c (rw (formed (form_of c) n) at t)
 
 pub form_exact : (c : ℕ) → c < 256 → (f : Form) → f ≢ NoForm → (form_of c ≡ f) ↔ (c ≡ opcode_of f)
 form_exact c h f n = (
@@ -112,19 +74,26 @@ form_exact c h f n = (
 )
 
 pub thirty : forms_below 256 ≡ 30
-unfolding forms_below form_of number_of sizes with_constant with_register jumps size_field
+unfolding forms_below is_form form_of sizes with_constant with_register jumps size_field
 thirty = refl
 
--- ---- the table
+-- ---- the opcode bytes, as the code lists them
 
--- by an opcode byte's high four bits and its low four, the number of the form that RFC 9669's fields give
-unfoldable pub numbers : List (List ℕ)
-numbers = listed (λ (h : ℕ). listed (λ (l : ℕ). number_of (form_of (16 * h + l))) 0 16) 0 16
+unfoldable pub codes : List ℕ
+codes = 24 ∷ 97 ∷ 105 ∷ 113 ∷ 121 ∷ 99 ∷ 107 ∷ 115 ∷ 123 ∷ 7 ∷ 23 ∷ 39 ∷ 55 ∷ 103 ∷ 119 ∷ 151 ∷ 15 ∷ 31 ∷ 47 ∷ 63 ∷ 111 ∷ 127 ∷ 159 ∷ 183 ∷ 191 ∷ 5 ∷ 21 ∷ 85 ∷ 133 ∷ 149 ∷ []
 
-pub number_at : (c : ℕ) → c < 256 → get_or (get_or numbers (c / 16) []) (c % 16) 0 ≡ number_of (form_of c)
-unfolding numbers
-number_at c h =
-    let whole : 16 * (0 + c / 16) + (0 + c % 16) ≡ c = omega arith in
-    ap (λ (r : List ℕ). get_or r (c % 16) 0) (listed_at (λ (h : ℕ). listed (λ (l : ℕ). number_of (form_of (16 * h + l))) 0 16) [] 0 16 (c / 16) (omega arith))
-    ∙ listed_at (λ (l : ℕ). number_of (form_of (16 * (0 + c / 16) + l))) 0 0 16 (c % 16) (omega arith)
-    ∙ ap (λ (n : ℕ). number_of (form_of n)) whole
+known : ℕ → Bool
+known c = implies (is_form (form_of c)) (list_any (eqb c) codes)
+
+known_all : T (every known 256)
+unfolding known codes is_form form_of size_field sizes with_constant with_register jumps
+known_all = tt
+
+-- any other byte has no form
+pub no_form : (c : ℕ) → c < 256 → list_any (eqb c) codes ≡ false → form_of c ≡ NoForm
+unfolding known is_form
+no_form c h e = go (form_of c) (rw e at (each known 256 known_all c h))
+  where
+    go : (f : Form) → T (implies (is_form f) false) → f ≡ NoForm
+    go NoForm t = refl
+    go f t = absurd t

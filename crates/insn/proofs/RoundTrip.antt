@@ -10,8 +10,8 @@ use Rattle.wire.specs.Le.{Bytes, bytes_of as lowest, unsigned_bytes, signed_byte
 use Rattle.wire.proofs.Le.{signed_of_bytes, bytes_of_signed}
 use Rattle.insn.specs.Layout.{Fields, bytes_of, insn_at, decoded}
 use Rattle.insn.specs.declared.Insn.{Insn}
-use Rattle.insn.specs.declared.Decoded.TheVariants as D
 use Rattle.insn.proofs.Pieces.{bytes_length}
+use Rattle.std.specs.Prelude.{Ok}
 
 nibbles : (a b : ℕ) → a < 16 → b < 16 → ((a % 16 + 16 * (b % 16)) % 16 ≡ a) × ((a % 16 + 16 * (b % 16)) / 16 ≡ b)
 nibbles a b h l =
@@ -28,9 +28,9 @@ insn_of_bytes i f =
     let m = signed_of_bytes w32 (i.code ∷ r ∷ signed_bytes w16 i.off) [] i.imm f.imm in
     λ j. record { code = i.code; dst = n.0 j; src = n.1 j; off = o j; imm = m j }
 
-pub decode_encode : (i : Insn) → Fields i → decoded (bytes_of i) ≡ D.Is i
+pub decode_encode : (i : Insn) → Fields i → decoded (bytes_of i) ≡ Ok i
 unfolding decoded
-decode_encode i f = rw (bytes_length i) (ap D.Is (insn_of_bytes i f))
+decode_encode i f = rw (bytes_length i) (ap Ok (insn_of_bytes i f))
 
 pub encode_decode : (b : List ℕ) → length b ≡ 8 → Bytes b → bytes_of (insn_at b 0) ≡ b
 unfolding bytes_of insn_at

@@ -1,15 +1,13 @@
 -- RFC 9669: the 8 bytes of an instruction. Byte 0 is the opcode; byte 1 the destination register in its low four bits and the
 -- source register in its high four; bytes 2 and 3 the offset, signed; bytes 4 to 7 imm, signed; low byte first.
-use Rattle.std.specs.Prelude.{ℕ, ◌+◌, ◌*◌, ◌/◌, ◌%◌, ◌<◌, List, ◌∷◌, ◌++◌, eqb, length}
+use Rattle.std.specs.Prelude.{ℕ, ◌+◌, ◌*◌, ◌/◌, ◌%◌, ◌<◌, List, ◌∷◌, ◌++◌, eqb, length, Err, Ok, Result, ⊤}
 use Rattle.std.specs.Int.{w16, w32, w64}
 use Rattle.std.proofs.Common.{SFits}
 use Rattle.wire.specs.Pick.{pick}
 use Rattle.wire.specs.Le.{byte_at, le, signed_at, unsigned_bytes, signed_bytes}
 use Rattle.insn.specs.declared.Insn.{Insn}
-use Rattle.insn.specs.declared.Decoded.{Decoded}
-use Rattle.insn.specs.declared.Decoded.TheVariants as D
-use Rattle.insn.specs.declared.Encoded.{Encoded}
-use Rattle.insn.specs.declared.Encoded.TheVariants as E
+use Rattle.insn.specs.declared.Fault.{Fault}
+use Rattle.insn.specs.declared.Fault.TheVariants.{NotEight}
 
 -- fields that the 8 bytes keep: registers 0 to 15, an offset of 16 bits and an imm of 32
 pub record Fields (i : Insn) : Type 0 where
@@ -40,11 +38,11 @@ unfoldable pub insn_of : ℕ → Insn
 insn_of w = insn_at (unsigned_bytes w64 w) 0
 
 -- 8 bytes are an instruction, and any other number of them is none
-unfoldable pub decoded : List ℕ → Decoded
-decoded b = pick (eqb (length b) 8) (D.Is (insn_at b 0)) D.NotEight
+unfoldable pub decoded : List ℕ → Result Insn Fault
+decoded b = pick (eqb (length b) 8) (Ok (insn_at b 0)) (Err NotEight)
 
-unfoldable pub encoded_answer : List ℕ → Encoded
-encoded_answer b = pick (eqb (length b) 8) E.Done E.NotEight
+unfoldable pub encoded_answer : List ℕ → Result ⊤ Fault
+encoded_answer b = pick (eqb (length b) 8) (Ok tt) (Err NotEight)
 
 unfoldable pub encoded_bytes : Insn → List ℕ → List ℕ
 encoded_bytes i b = pick (eqb (length b) 8) (bytes_of i) b

@@ -58,9 +58,7 @@ impl Insn {
     pub fn to_le_bytes(self) -> [u8; 8]
         ensures { result ≡ bytes_of self }
     {
-        let mut out = [0u8; 8];
-        put_insn(&mut out, 0, self);
-        out
+        word(self).to_le_bytes()
     }
 }
 
@@ -68,16 +66,7 @@ impl Insn {
 pub fn insn_at(b: &[u8], at: usize) -> Insn
     ensures { result ≡ insn_at b.now at }
 {
-    if b.len() < at {
-        return Insn {
-            code: 0,
-            dst: 0,
-            src: 0,
-            off: 0,
-            imm: 0,
-        };
-    }
-    let part = &b[at..];
+    let part = b.get(at..).unwrap_or(&[]);
     let registers = wire::get_u8(part, 1);
     Insn {
         code: wire::get_u8(part, 0),
@@ -89,57 +78,56 @@ pub fn insn_at(b: &[u8], at: usize) -> Insn
 }
 
 // The instruction's 8 bytes as one number.
+#[tactic(auto, using(crate::proofs::Words::word_is_lem))]
 pub fn word(i: Insn) -> u64
     ensures { result ≡ word_of i }
 {
     let registers = i.dst % 16 + 16 * (i.src % 16);
     let low = i.code as u64 + 256 * (registers as u64);
-    let off = wire::bits16(i.off) as u64;
-    let imm = wire::bits32(i.imm) as u64;
+    let off = i.off.cast_unsigned() as u64;
+    let imm = i.imm.cast_unsigned() as u64;
     low + 65536 * off + 4294967296 * imm
 }
 
 // The instruction's 8 bytes written from a byte of the code on; nothing where they do not lie whole in it.
+#[tactic(auto, using(crate::proofs::Words::word_bytes))]
 pub fn put_insn(b: &mut [u8], at: usize, i: Insn)
     ensures { b.new ≡ store b.old at (bytes_of i) }
 {
     wire::put_u64(b, at, word(i));
 }
 
-#[derive(Drop)]
-pub enum Decoded {
-    Is(Insn),
+// Why 8 bytes and an instruction are not turned into each other: the slice has another length.
+#[derive(Clone, Copy)]
+pub enum Fault {
     NotEight,
 }
 
-pub fn decode(b: &[u8]) -> Decoded
+#[tactic(auto, unfolding(crate::specs::Layout::decoded))]
+pub fn decode(b: &[u8]) -> Result<Insn, Fault>
     ensures { result ≡ decoded b.now }
 {
     if b.len() == 8 {
-        return Decoded::Is(insn_at(b, 0));
+        return Ok(insn_at(b, 0));
     }
-    Decoded::NotEight
+    Err(Fault::NotEight)
 }
 
-#[derive(Drop)]
-pub enum Encoded {
-    Done,
-    NotEight,
-}
-
-pub fn encode(i: Insn, b: &mut [u8]) -> Encoded
+#[tactic(auto, using(crate::proofs::Pieces::stored_whole), unfolding(crate::specs::Layout::encoded_answer, crate::specs::Layout::encoded_bytes))]
+pub fn encode(i: Insn, b: &mut [u8]) -> Result<(), Fault>
     ensures value { result ≡ encoded_answer b.old }
     ensures b_after { b.new ≡ encoded_bytes i b.old }
 {
     if b.len() == 8 {
         put_insn(b, 0, i);
-        return Encoded::Done;
+        return Ok(());
     }
-    Encoded::NotEight
+    Err(Fault::NotEight)
 }
 
 // ---- opcodes
 
+#[tactic(auto, unfolding(crate::specs::Rfc::operation_of))]
 pub fn alu64_imm(op: BinaryOp) -> u8
     ensures { result ≡ alu_byte ALU64 K (operation_of op) }
 {
@@ -169,33 +157,27 @@ const MEM_B: u8 = 0x70;
 
 const MEM_DW: u8 = 0x78;
 
-// The opcode of a load or store of so many bytes.
-#[derive(Drop)]
-pub enum MemCode {
-    Code(u8),
-    Unsupported,
-}
-
-fn mem(class: u8, bytes: u8) -> MemCode
+#[tactic(auto, unfolding(crate::specs::Form::mem_code, crate::specs::Rfc::width))]
+fn mem(class: u8, bytes: u8) -> Option<u8>
     requires { class < 8 }
     ensures { result ≡ mem_code class bytes }
 {
     match bytes {
-        1 => MemCode::Code(class + MEM_B),
-        2 => MemCode::Code(class + MEM_H),
-        4 => MemCode::Code(class + MEM_W),
-        8 => MemCode::Code(class + MEM_DW),
-        _ => MemCode::Unsupported,
+        1 => Some(sized(class, Size::B)),
+        2 => Some(sized(class, Size::H)),
+        4 => Some(sized(class, Size::W)),
+        8 => Some(sized(class, Size::Dw)),
+        _ => None,
     }
 }
 
-pub fn ldx_mem(bytes: u8) -> MemCode
+pub fn ldx_mem(bytes: u8) -> Option<u8>
     ensures { result ≡ mem_code LDX bytes }
 {
     mem(1, bytes)
 }
 
-pub fn stx_mem(bytes: u8) -> MemCode
+pub fn stx_mem(bytes: u8) -> Option<u8>
     ensures { result ≡ mem_code STX bytes }
 {
     mem(3, bytes)
@@ -203,6 +185,7 @@ pub fn stx_mem(bytes: u8) -> MemCode
 
 // ---- the opcode of a form
 
+#[tactic(auto, unfolding(crate::specs::Rfc::size_field))]
 fn sized(class: u8, size: Size) -> u8
     requires { class < 8 }
     ensures { result ≡ mem_byte class (size_field size) MEM }
@@ -215,6 +198,7 @@ fn sized(class: u8, size: Size) -> u8
     }
 }
 
+#[tactic(auto, unfolding(crate::specs::Form::opcode_of, crate::specs::Rfc::size_field))]
 pub fn opcode_of(f: Form) -> u8
     ensures { result ≡ opcode_of f }
 {

@@ -1,67 +1,81 @@
-// An instruction's operands in the words of LLVM's disassembler, put into a lent line as `line` does.
-use crate::line::{decimal, hex, word};
+// An instruction's operands in the words of LLVM's disassembler.
 use insn::form::Size;
-
-pub(crate) fn register(line: &mut [u8], at: usize, r: u8) -> usize {
-    let at = word(line, at, b"r");
-    decimal(line, at, r as u64)
-}
-
-// The number without its sign, from its 64 bits in two's complement.
-fn magnitude(z: i64) -> u64 {
-    let mut b = [0u8; 8];
-    wire::put_i64(&mut b, 0, z);
-    let x = wire::get_u64(&b, 0);
-    if x < 9223372036854775808 {
-        return x;
-    }
-    18446744073709551615 - x + 1
-}
-
-fn sign(line: &mut [u8], at: usize, z: i64, plus: &[u8], minus: &[u8]) -> usize {
-    if z < 0 {
-        return word(line, at, minus);
-    }
-    word(line, at, plus)
-}
+use ir::BinaryOp;
+use std::fmt;
 
 // A number in hexadecimal after its sign, for which each place of LLVM's text has its own two words.
-pub(crate) fn signed(line: &mut [u8], at: usize, z: i64, plus: &[u8], minus: &[u8]) -> usize {
-    let at = sign(line, at, z, plus, minus);
-    let at = word(line, at, b"0x");
-    hex(line, at, magnitude(z), 1)
+#[derive(Clone, Copy)]
+pub(crate) struct Signed {
+    number: i64,
+    plus: &'static str,
+    minus: &'static str,
 }
 
-fn wide16(z: i16) -> i64 {
-    z as i64
-}
+impl Signed {
+    pub(crate) fn constant(number: i64) -> Self {
+        Self::new(number, "", "-")
+    }
 
-fn wide32(z: i32) -> i64 {
-    z as i64
-}
+    // How far a jump goes.
+    pub(crate) fn distance(off: i16) -> Self {
+        Self::new(i64::from(off), "+", "-")
+    }
 
-pub(crate) fn offset(line: &mut [u8], at: usize, off: i16, plus: &[u8], minus: &[u8]) -> usize {
-    signed(line, at, wide16(off), plus, minus)
-}
-
-pub(crate) fn constant(line: &mut [u8], at: usize, imm: i32) -> usize {
-    signed(line, at, wide32(imm), b"", b"-")
-}
-
-fn size(line: &mut [u8], at: usize, s: Size) -> usize {
-    match s {
-        Size::B => word(line, at, b"u8"),
-        Size::H => word(line, at, b"u16"),
-        Size::W => word(line, at, b"u32"),
-        Size::Dw => word(line, at, b"u64"),
+    fn new(number: i64, plus: &'static str, minus: &'static str) -> Self {
+        Signed {
+            number,
+            plus,
+            minus,
+        }
     }
 }
 
-pub(crate) fn memory(line: &mut [u8], at: usize, s: Size, base: u8, off: i16) -> usize {
-    let at = word(line, at, b"*(");
-    let at = size(line, at, s);
-    let at = word(line, at, b" *)(");
-    let at = register(line, at, base);
-    let at = offset(line, at, off, b" + ", b" - ");
-    word(line, at, b")")
+impl fmt::Display for Signed {
+    fn fmt<W: fmt::Write>(&self, f: &mut fmt::Formatter<W>) -> fmt::Result {
+        let sign = if self.number < 0 {
+            self.minus
+        } else {
+            self.plus
+        };
+        write!(f, "{sign}{:#x}", self.number.unsigned_abs())
+    }
+}
+
+// Where a load reads and a store writes.
+#[derive(Clone, Copy)]
+pub(crate) struct Memory {
+    size: Size,
+    base: u8,
+    off: Signed,
+}
+
+impl Memory {
+    pub(crate) fn new(size: Size, base: u8, off: i16) -> Self {
+        let off = Signed::new(i64::from(off), " + ", " - ");
+        Memory { size, base, off }
+    }
+}
+
+impl fmt::Display for Memory {
+    fn fmt<W: fmt::Write>(&self, f: &mut fmt::Formatter<W>) -> fmt::Result {
+        let size = match self.size {
+            Size::B => "u8",
+            Size::H => "u16",
+            Size::W => "u32",
+            Size::Dw => "u64",
+        };
+        write!(f, "*({size} *)(r{}{})", self.base, self.off)
+    }
+}
+
+pub(crate) fn symbol_of(op: BinaryOp) -> &'static str {
+    match op {
+        BinaryOp::Add => "+=",
+        BinaryOp::Sub => "-=",
+        BinaryOp::Mul => "*=",
+        BinaryOp::Div => "/=",
+        BinaryOp::Mod => "%=",
+        BinaryOp::Shl => "<<=",
+        BinaryOp::Shr => ">>=",
+    }
 }

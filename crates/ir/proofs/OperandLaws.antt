@@ -6,10 +6,9 @@ use native.Mathlib.Omega.{arith}
 use lib.ListN.{length}
 use Rattle.ir.specs.Operands.{list_of, pushed, first_of, rest_of}
 use Rattle.ir.specs.declared.Operand.{Operand}
-use Rattle.ir.specs.declared.operands.Front.{Front}
-use Rattle.ir.specs.declared.operands.Front.TheVariants as H
 use Rattle.ir.specs.declared.operands.Operands.{Operands}
 use Rattle.ir.specs.declared.operands.Operands.TheVariants.{Zero, One, Two, Three, Four, Five, Six, Seven, Eight}
+use Rattle.std.specs.Prelude.{None, Option, Some}
 
 pub at_most_eight : (l : Operands) → length (list_of l) ≤ 8
 unfolding list_of
@@ -36,9 +35,9 @@ pushed_last (Seven a b c d e f g) o room = refl
 pushed_last (Eight a b c d e f g h) o room = absurd (omega arith)
 
 -- what a list begins with, by the answer of `first_of`
-abbrev Begins : Operands → Front → Type 0
-Begins l H.Nothing = list_of l ≡ []
-Begins l (H.Is a) = list_of l ≡ a ∷ list_of (rest_of l)
+abbrev Begins : Operands → Option Operand → Type 0
+Begins l None = list_of l ≡ []
+Begins l (Some a) = list_of l ≡ a ∷ list_of (rest_of l)
 
 begins : (l : Operands) → Begins l (first_of l)
 unfolding list_of first_of rest_of
@@ -52,10 +51,10 @@ begins (Six a b c d e f) = refl
 begins (Seven a b c d e f g) = refl
 begins (Eight a b c d e f g h) = refl
 
-pub first_is : (l : Operands) (a : Operand) → first_of l ≡ H.Is a → list_of l ≡ a ∷ list_of (rest_of l)
+pub first_is : (l : Operands) (a : Operand) → first_of l ≡ Some a → list_of l ≡ a ∷ list_of (rest_of l)
 first_is l a e = subst (Begins l) e (begins l)
 
-pub first_nothing : (l : Operands) → first_of l ≡ H.Nothing → list_of l ≡ []
+pub first_nothing : (l : Operands) → first_of l ≡ None → list_of l ≡ []
 first_nothing l e = subst (Begins l) e (begins l)
 
 -- the operands of a list, pushed one after the other

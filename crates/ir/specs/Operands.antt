@@ -1,8 +1,6 @@
 -- An instruction's operands as a list.
-use Rattle.std.specs.Prelude.{List, [], ◌∷◌}
+use Rattle.std.specs.Prelude.{List, [], ◌∷◌, None, Option, Some}
 use Rattle.ir.specs.declared.Operand.{Operand}
-use Rattle.ir.specs.declared.operands.Front.{Front}
-use Rattle.ir.specs.declared.operands.Front.TheVariants.{Is, Nothing}
 use Rattle.ir.specs.declared.operands.Operands.{Operands}
 use Rattle.ir.specs.declared.operands.Operands.TheVariants.{Zero, One, Two, Three, Four, Five, Six, Seven, Eight}
 
@@ -30,16 +28,16 @@ pushed (Seven a b c d e f g) o = Eight a b c d e f g o
 pushed (Eight a b c d e f g h) o = Eight a b c d e f g h
 
 -- the first operand, and those after it
-unfoldable pub first_of : Operands → Front
-first_of Zero = Nothing
-first_of (One a) = Is a
-first_of (Two a b) = Is a
-first_of (Three a b c) = Is a
-first_of (Four a b c d) = Is a
-first_of (Five a b c d e) = Is a
-first_of (Six a b c d e f) = Is a
-first_of (Seven a b c d e f g) = Is a
-first_of (Eight a b c d e f g h) = Is a
+unfoldable pub first_of : Operands → Option Operand
+first_of Zero = None
+first_of (One a) = Some a
+first_of (Two a b) = Some a
+first_of (Three a b c) = Some a
+first_of (Four a b c d) = Some a
+first_of (Five a b c d e) = Some a
+first_of (Six a b c d e f) = Some a
+first_of (Seven a b c d e f g) = Some a
+first_of (Eight a b c d e f g h) = Some a
 
 unfoldable pub rest_of : Operands → Operands
 rest_of Zero = Zero

@@ -1,4 +1,4 @@
-// An instruction's operands: none to eight, by value.
+// An instruction's operands: none to eight, by value. No array with a count: of these, two values that are the same list are the same value.
 ghost use Rattle.std.specs.Prelude.{◌≡◌, length};
 ghost use Rattle.ir.specs.Operands.{list_of, first_of, rest_of, pushed};
 
@@ -17,6 +17,7 @@ pub enum Operands {
     Eight(Operand, Operand, Operand, Operand, Operand, Operand, Operand, Operand),
 }
 
+#[tactic(auto, unfolding(crate::specs::Operands::list_of))]
 pub fn count(list: Operands) -> u8
     ensures { result ≡ length (list_of list) }
 {
@@ -34,6 +35,7 @@ pub fn count(list: Operands) -> u8
 }
 
 // The operands with one more after them; eight have no room for it.
+#[tactic(auto, unfolding(crate::specs::Operands::pushed))]
 pub fn push(list: Operands, o: Operand) -> Operands
     ensures { result ≡ pushed list o }
 {
@@ -50,30 +52,25 @@ pub fn push(list: Operands, o: Operand) -> Operands
     }
 }
 
-// What stands first among the operands.
-#[derive(Drop)]
-pub enum Front {
-    Is(Operand),
-    Nothing,
-}
-
-pub fn first(list: Operands) -> Front
+#[tactic(auto, unfolding(crate::specs::Operands::first_of))]
+pub fn first(list: Operands) -> Option<Operand>
     ensures { result ≡ first_of list }
 {
     match list {
-        Operands::Zero => Front::Nothing,
-        Operands::One(a) => Front::Is(a),
-        Operands::Two(a, _) => Front::Is(a),
-        Operands::Three(a, _, _) => Front::Is(a),
-        Operands::Four(a, _, _, _) => Front::Is(a),
-        Operands::Five(a, _, _, _, _) => Front::Is(a),
-        Operands::Six(a, _, _, _, _, _) => Front::Is(a),
-        Operands::Seven(a, _, _, _, _, _, _) => Front::Is(a),
-        Operands::Eight(a, _, _, _, _, _, _, _) => Front::Is(a),
+        Operands::Zero => None,
+        Operands::One(a) => Some(a),
+        Operands::Two(a, _) => Some(a),
+        Operands::Three(a, _, _) => Some(a),
+        Operands::Four(a, _, _, _) => Some(a),
+        Operands::Five(a, _, _, _, _) => Some(a),
+        Operands::Six(a, _, _, _, _, _) => Some(a),
+        Operands::Seven(a, _, _, _, _, _, _) => Some(a),
+        Operands::Eight(a, _, _, _, _, _, _, _) => Some(a),
     }
 }
 
 // The operands after the first.
+#[tactic(auto, unfolding(crate::specs::Operands::rest_of))]
 pub fn rest(list: Operands) -> Operands
     ensures { result ≡ rest_of list }
 {

@@ -15,8 +15,6 @@ use Rattle.ir.specs.declared.Terminator.TheVariants as T
 use Rattle.insn.specs.declared.Insn.{Insn}
 use Rattle.insn.specs.declared.form.Form.TheVariants.{Exit}
 use Rattle.frame.specs.Cell.{Frame}
-use Rattle.frame.specs.declared.Cell.{Cell}
-use Rattle.frame.specs.declared.Cell.TheVariants.{At, Missing}
 use Rattle.unitfile.specs.Unit.{BasicBlock}
 use Rattle.lower.specs.Op.{plain, ja, jne, Lowered, becomes, refused, insn, ◌▸◌, slots_of}
 use Rattle.lower.specs.Operand.{constant, on_cell, load}
@@ -26,6 +24,7 @@ use Rattle.layout.specs.Layout.{Context, Laid, at, ops, slots, instructions, blo
 use Rattle.layout.specs.Jumps.{Jump, jas, jnes, patches, jumps_from, Start, Landing, lands, no_target, too_far, or_rest, on_target, last_start, landing}
 use Rattle.layout.specs.Inner.{scratch_by, block_by}
 use Rattle.layout.proofs.Laid.{Fine, Both, both_fine, slots_then, no_slots}
+use Rattle.std.specs.Prelude.{None, Option, Some}
 
 -- ---- a load is one instruction, or it is refused
 
@@ -37,10 +36,10 @@ one_pick : (t : Bool) (a b : Lowered) → One a → One b → One (pick t a b)
 one_pick true a b p q = p
 one_pick false a b p q = q
 
-one_cell : (v : ℕ) (x : Cell) (g : ℤ → Lowered) → ((z : ℤ) → One (g z)) → One (on_cell v x g)
+one_cell : (v : ℕ) (x : Option ℤ) (g : ℤ → Lowered) → ((z : ℤ) → One (g z)) → One (on_cell v x g)
 unfolding on_cell
-one_cell v (At z) g h = h z
-one_cell v Missing g h = none _
+one_cell v (Some z) g h = h z
+one_cell v None g h = none _
 
 one_load : (f : Frame) (r : ℕ) (o : Operand) → One (load f r o)
 unfolding load constant insn

@@ -19,20 +19,15 @@ use Rattle.ir.specs.declared.Instruction.{Instruction}
 use Rattle.insn.specs.Rfc.{LDX, STX}
 use Rattle.insn.specs.Form.{mem_code}
 use Rattle.insn.specs.declared.Insn.{Insn}
-use Rattle.insn.specs.declared.MemCode.{MemCode}
-use Rattle.insn.specs.declared.MemCode.TheVariants as M
 use Rattle.insn.specs.declared.form.Form.{Form}
 use Rattle.frame.specs.Cell.{Frame}
-use Rattle.frame.specs.declared.Cell.{Cell}
-use Rattle.frame.specs.declared.Cell.TheVariants.{At, Missing}
 use Rattle.lower.specs.Op.{Op, plain, Lowered, becomes, refused, insn, ◌▸◌}
 use Rattle.lower.specs.Operand.{constant, move, add, call, on_cell, load, addr, next, keep, map_address}
 use Rattle.lower.specs.Instruction.{on_first, on_two, on_three, on_none, sized, mem, operate, from_context, helper_call, null_check, opcode, instruction}
 use Rattle.lower.specs.Step.{map_ops}
 use Rattle.lower.specs.declared.Reason.{Reason}
-use Rattle.lower.specs.declared.MapUse.{MapUse}
-use Rattle.lower.specs.declared.MapUse.TheVariants as U
 use Rattle.layout.specs.Inner.{plain_ops}
+use Rattle.std.specs.Prelude.{None, Option, Some}
 
 -- n plain instructions at most
 data Plain (n : ℕ) : Lowered → Type 0 where
@@ -41,7 +36,7 @@ data Plain (n : ℕ) : Lowered → Type 0 where
 
 -- and a map's load before them, or none
 pub data Tidy (n : ℕ) : Lowered → Type 0 where
-  some : (m : MapUse) (is : List Insn) → length is ≤ n → Tidy n (becomes (map_ops m ++ plain_ops is))
+  some : (m : Option ℕ) (is : List Insn) → length is ≤ n → Tidy n (becomes (map_ops m ++ plain_ops is))
   none : (r : Reason) → Tidy n (refused r)
 
 pub plain_append : (a b : List Insn) → plain_ops (a ++ b) ≡ plain_ops a ++ plain_ops b
@@ -76,7 +71,7 @@ eleven h (Tidy.none r) = Tidy.none r
 
 tidy : {j : ℕ} {x : Lowered} → j ≤ 11 → Plain j x → Tidy 11 x
 unfolding map_ops
-tidy h (Plain.some a p) = Tidy.some U.Nothing a (omega arith)
+tidy h (Plain.some a p) = Tidy.some None a (omega arith)
 tidy h (Plain.none r) = Tidy.none r
 
 plain_pick : {n : ℕ} (t : Bool) (a b : Lowered) → Plain n a → Plain n b → Plain n (pick t a b)
@@ -113,10 +108,10 @@ p_call : (h : ℕ) → Plain 1 (call h)
 unfolding call
 p_call h = one _ _ _ _ _
 
-p_cell : {n : ℕ} (v : ℕ) (x : Cell) (g : ℤ → Lowered) → ((z : ℤ) → Plain n (g z)) → Plain n (on_cell v x g)
+p_cell : {n : ℕ} (v : ℕ) (x : Option ℤ) (g : ℤ → Lowered) → ((z : ℤ) → Plain n (g z)) → Plain n (on_cell v x g)
 unfolding on_cell
-p_cell v (At z) g h = h z
-p_cell v Missing g h = Plain.none _
+p_cell v (Some z) g h = h z
+p_cell v None g h = Plain.none _
 
 p_load : (f : Frame) (r : ℕ) (o : Operand) → Plain 1 (load f r o)
 unfolding load
@@ -136,10 +131,10 @@ p_mem : (code dst src : ℕ) (off : ℤ) → Plain 1 (mem code dst src off)
 unfolding mem
 p_mem code dst src off = p_insn _
 
-p_sized : {n : ℕ} (x : MemCode) (bad : Reason) (g : ℕ → Lowered) → ((k : ℕ) → Plain n (g k)) → Plain n (sized x bad g)
+p_sized : {n : ℕ} (x : Option ℕ) (bad : Reason) (g : ℕ → Lowered) → ((k : ℕ) → Plain n (g k)) → Plain n (sized x bad g)
 unfolding sized
-p_sized (M.Code code) bad g h = h code
-p_sized M.Unsupported bad g h = Plain.none bad
+p_sized (Some code) bad g h = h code
+p_sized None bad g h = Plain.none bad
 
 p_operate : (f : Frame) (op : BinaryOp) (o : Operand) → Plain 2 (operate f op o)
 unfolding operate
@@ -153,7 +148,7 @@ p_null false = one _ _ _ _ _ ▹ one _ _ _ _ _ ▹ p_constant 0 (pos 0) ▹ one 
 
 t_map : (m : ℕ) → Tidy 0 (map_address m)
 unfolding map_address map_ops plain_ops
-t_map m = Tidy.some (U.Map m) [] (omega arith)
+t_map m = Tidy.some (Some m) [] (omega arith)
 
 -- ---- counts
 

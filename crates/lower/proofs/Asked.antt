@@ -2,11 +2,11 @@
 use mathlib.Core.Path.{◌≡◌, refl, sym}
 use mathlib.Core.Bool.{Bool, true, false, true≢false}
 use mathlib.Core.List.{List, [], ◌∷◌}
-use Prim.Native.Nat.{ℕ, suc}
+use Prim.Native.Nat.{ℕ}
 use native.Mathlib.Omega.{arith}
 use borrow.Author.Tests.{eqb-true, leb-false}
-use lib.Dec.{eqb, leb}
-use lib.IntN.{ℤ, pos}
+use lib.Dec.{eqb}
+use lib.IntN.{ℤ}
 use lib.ListN.{length}
 use Rattle.wire.specs.Pick.{pick, either}
 use Rattle.wire.specs.Range.{fits16, fits32}
@@ -17,21 +17,17 @@ use Rattle.ir.specs.declared.Opcode.{Opcode}
 use Rattle.ir.specs.declared.Opcode.TheVariants as C
 use Rattle.insn.specs.Rfc.{LDX, STX}
 use Rattle.insn.specs.Form.{mem_code}
-use Rattle.insn.specs.declared.MemCode.{MemCode}
-use Rattle.insn.specs.declared.MemCode.TheVariants as M
 use Rattle.insn.specs.declared.form.Form.{Form}
 use Rattle.opcode.specs.Asks.{helper_asks, asks_of, enough}
-use Rattle.opcode.specs.declared.asks.Asks.{Asks}
 use Rattle.opcode.specs.declared.asks.Asks.TheVariants.{Nothing, First, Exactly}
 use Rattle.frame.specs.Cell.{Frame}
-use Rattle.frame.specs.declared.Cell.{Cell}
-use Rattle.frame.specs.declared.Cell.TheVariants.{At, Missing}
 use Rattle.lower.specs.Op.{Op, Lowered, becomes, refused, insn, ◌▸◌}
 use Rattle.lower.specs.Operand.{constant, move, add, call, on_cell, load, addr, next, keep, map_address}
 use Rattle.lower.specs.Instruction.{on_first, on_two, on_three, on_none, sized, mem, operate, from_context, helper_call, null_check, opcode}
 use Rattle.lower.specs.Counted.{Counted}
 use Rattle.lower.specs.declared.Reason.{Reason}
 use Rattle.lower.specs.declared.Reason.TheVariants as Re
+use Rattle.std.specs.Prelude.{None, Option, Some}
 
 no : {P : Type 0} → true ≡ false → P
 no e = absurd (true≢false e)
@@ -82,10 +78,10 @@ a_constant : (r : ℕ) (z : ℤ) → Free (constant r z)
 unfolding constant
 a_constant r z = picked (fits32 z) (one _ _ _ _ _) (no_immediate z)
 
-on_cell_lem : (v : ℕ) (c : Cell) (f : ℤ → Lowered) → ((z : ℤ) → Free (f z)) → Free (on_cell v c f)
+on_cell_lem : (v : ℕ) (c : Option ℤ) (f : ℤ → Lowered) → ((z : ℤ) → Free (f z)) → Free (on_cell v c f)
 unfolding on_cell
-on_cell_lem v (At z) f h = h z
-on_cell_lem v Missing f h = record { never = λ n e. let z : ◌≡◌ {A = ℕ} 0 1 = cc in omega arith }
+on_cell_lem v (Some z) f h = h z
+on_cell_lem v None f h = record { never = λ n e. let z : ◌≡◌ {A = ℕ} 0 1 = cc in omega arith }
 
 a_call : (id : ℕ) → Free (call id)
 unfolding call
@@ -95,10 +91,10 @@ a_map : (m : ℕ) → Free (map_address m)
 unfolding map_address
 a_map m = made _
 
-by_size : (k : MemCode) (bad : Reason) (f : ℕ → Lowered) → Free (refused bad) → ((code : ℕ) → Free (f code)) → Free (sized k bad f)
+by_size : (k : Option ℕ) (bad : Reason) (f : ℕ → Lowered) → Free (refused bad) → ((code : ℕ) → Free (f code)) → Free (sized k bad f)
 unfolding sized
-by_size (M.Code code) bad f p q = q code
-by_size M.Unsupported bad f p q = p
+by_size (Some code) bad f p q = q code
+by_size None bad f p q = p
 
 a_mem : (code dst src : ℕ) (off : ℤ) → Free (mem code dst src off)
 unfolding mem

@@ -4,19 +4,16 @@ use mathlib.Core.Bool.{Bool}
 use mathlib.Core.List.{List}
 use Prim.Native.Nat.{ℕ, zero, suc}
 use lib.ListN.{get_or}
-use mir.Syntax.{w32}
-use Rattle.wire.specs.Le.{byte_at, unsigned_at}
 use Rattle.ir.specs.declared.BinaryOp.TheVariants.{Add}
 use Rattle.ir.specs.declared.Operand.{Operand}
 use Rattle.ir.specs.declared.Opcode.{Opcode}
 use Rattle.ir.specs.declared.Opcode.TheVariants as C
-use Rattle.operand.specs.Operand.{operands_in}
 use Rattle.opcode.specs.Opcode.{operations, map_of, opcodes, opcode_in}
 use Rattle.opcode.specs.declared.Fields.{Fields}
 use Rattle.record.specs.Instruction.{fields_in}
 use Rattle.frame.specs.Cell.{Frame}
-use Rattle.lower.specs.Instruction.{opcode, scratch_by}
-use Rattle.lower.specs.Payload.{operands_of, instruction_in, scratch_in}
+use Rattle.lower.specs.Instruction.{scratch_by}
+use Rattle.lower.specs.Payload.{operands_of, instruction_as, instruction_in, scratch_in}
 
 -- ---- by the code
 
@@ -90,11 +87,11 @@ module _ (f : Fields) {code : ℕ} (e : code ≡ f.code) where
 
 -- ---- the parts of a payload, as the code has them
 
-module _ (p : List ℕ) {n : ℕ} {o x : Opcode} (count : n ≡ byte_at p 6) (by : opcode_in (fields_in p 0) ≡ x) (is : o ≡ x) where
-  pub lowered : (f : Frame) (j : ℕ) (condition : Bool) {result : ℕ} → result ≡ unsigned_at w32 p 0 → opcode f j condition result o (operands_in p 16 n) ≡ instruction_in f j condition p
-  unfolding instruction_in operands_of
-  lowered f j condition r = rw (r, count, is, by)
+module _ (p : List ℕ) {o x : Opcode} (by : opcode_in (fields_in p 0) ≡ x) (is : o ≡ x) where
+  pub lowered : (f : Frame) (j : ℕ) (condition : Bool) → instruction_as f j condition o p ≡ instruction_in f j condition p
+  unfolding instruction_in
+  lowered f j condition = rw (is, by)
 
-  pub moved : (j : ℕ) → scratch_by j o (operands_in p 16 n) ≡ scratch_in j p
-  unfolding scratch_in operands_of
-  moved j = rw (count, is, by)
+  pub moved : (j : ℕ) → scratch_by j o (operands_of p) ≡ scratch_in j p
+  unfolding scratch_in
+  moved j = rw (is, by)

@@ -1,3 +1,4 @@
+pub mod Exits
 pub mod Steps
 pub mod Compose
 pub mod Counts

@@ -19,8 +19,7 @@ use Rattle.insn.specs.Layout.{insn_of}
 use Rattle.insn.specs.declared.Insn.{Insn}
 use Rattle.insn.specs.declared.form.Size.TheVariants.{Dw}
 use Rattle.insn.specs.declared.form.Form.TheVariants.{Ldx, Stx, AluReg}
-use Rattle.frame.specs.Cell.{Frame, frame_of}
-use Rattle.frame.specs.Hint.{frame_by}
+use Rattle.frame.specs.Cell.{Frame}
 use Rattle.lower.specs.Op.{Lowered, becomes, refused, plain, insn, ◌▸◌}
 use Rattle.lower.specs.Operand.{constant, move, add, call, load, addr, keep}
 use Rattle.lower.specs.Instruction.{sized, mem, operate, null_check, helper_call, on_none, on_three}
@@ -56,12 +55,6 @@ pub addr_parts : (f : Frame) (j r : ℕ) (o : Operand) → (addr_put f j r o ▸
 unfolding addr_put addr_take addr
 addr_parts f j r (Var v) = nothing_first _
 addr_parts f j r (Immediate z) = sym (assoc (constant r z ▸ insn (Stx Dw) 10 r (f.scratch j) (pos 0)) (move r 10) (add r (f.scratch j)))
-
--- the scratch cells do not depend on the guesses
-pub same_scratch : (vs hs : List ℕ) (j r : ℕ) (o : Operand) → addr_put (frame_of vs) j r o ≡ addr_put (frame_by vs hs) j r o
-unfolding addr_put frame_of frame_by
-same_scratch vs hs j r (Var v) = refl
-same_scratch vs hs j r (Immediate z) = refl
 
 -- ---- NullCheck
 

@@ -1,58 +1,23 @@
 -- Pieces one after the other, and what putting them leaves.
 use mathlib.Core.Path.{◌≡◌, refl, sym, ap, ap₂, ◌∙◌}
 use mathlib.Core.List.{List, [], ◌∷◌, ◌++◌}
-use Prim.Native.Nat.{ℕ, suc, ◌+◌, ◌*◌}
+use Prim.Native.Nat.{ℕ, ◌+◌, ◌*◌, ◌<◌, ◌≤◌}
 use native.Mathlib.Omega.{arith}
-use lib.ListN.{length, length-append}
+use lib.ListN.{length, length-append, get_or, take}
+use Rattle.std.proofs.Common.{take_all}
+use Rattle.std.proofs.lemmas.List.{take_more}
 use Rattle.wire.specs.Le.{le, bytes_of as lowest, unsigned_at, signed_at, unsigned_bytes, store}
 use Rattle.insn.specs.Layout.{bytes_of, insn_at, insn_of}
 use Rattle.insn.specs.declared.Insn.{Insn}
 use Rattle.lower.specs.Op.{Op, plain, map, ja, jne, Lowered, becomes, refused, slots_of, ◌▸◌}
 use Rattle.lower.specs.Put.{wide_insn, zero_insn, insns_in, put_at, put_lowered}
 use Rattle.lower.specs.Held.{map_in, held}
-use Rattle.lower.specs.Step.{all, step_of, outcome_of, ops_of, piece_of, first_of, map_ops, Holds, PutPiece, Puts}
+use Rattle.lower.specs.Step.{chain, step_of, ops_of, map_ops, Holds, PutPiece, Puts}
 use Rattle.lower.specs.declared.Reason.{Reason}
-use Rattle.lower.specs.declared.Outcome.{Outcome}
-use Rattle.lower.specs.declared.Outcome.TheVariants.{Fine, Refused}
-use Rattle.lower.specs.declared.MapUse.{MapUse}
-use Rattle.lower.specs.declared.MapUse.TheVariants as M
 use Rattle.lower.specs.declared.Emitted.{Emitted}
-use Rattle.lower.specs.declared.piece.Step.{Step}
-use Rattle.lower.specs.declared.piece.Step.TheVariants as S
 use Rattle.lower.specs.declared.piece.Piece.{Piece}
 use Rattle.lower.specs.declared.piece.Piece.TheVariants as P
-
--- ---- one after the other
-
-join : (o p : Outcome) (l m : List Op) → (all o l ▸ all p m) ≡ all (first_of o p) (l ++ m)
-unfolding all first_of ◌▸◌
-join Fine Fine l m = refl
-join Fine (Refused r) l m = refl
-join (Refused r) Fine l m = refl
-join (Refused r) (Refused q) l m = refl
-
--- pieces after x, their first refusal, their operations
-unfoldable pub run : Lowered → List Piece → Lowered
-run x [] = x
-run x (p ∷ t) = run (x ▸ piece_of p) t
-
-unfoldable pub outcomes : Outcome → List Piece → Outcome
-outcomes o [] = o
-outcomes o (p ∷ t) = outcomes (first_of o (outcome_of p)) t
-
-unfoldable pub run_ops : List Op → List Piece → List Op
-run_ops l [] = l
-run_ops l (p ∷ t) = run_ops (l ++ ops_of p) t
-
-run_all : (t : List Piece) (o : Outcome) (l : List Op) → run (all o l) t ≡ all (outcomes o t) (run_ops l t)
-unfolding run outcomes run_ops piece_of
-run_all [] o l = refl
-run_all (p ∷ t) o l =
-    ap (λ (x : Lowered). run x t) (join o (outcome_of p) l (ops_of p)) ∙ run_all t (first_of o (outcome_of p)) (l ++ ops_of p)
-
--- the first refusal of what came before, known as x, and of one piece more
-pub later : {o q x : Outcome} (p : Piece) → q ≡ first_of o (outcome_of p) → o ≡ x → q ≡ first_of x (outcome_of p)
-later p e f = e ∙ ap (λ (y : Outcome). first_of y (outcome_of p)) f
+use Rattle.std.specs.Prelude.{Err, None, Ok, Option, Result, Some}
 
 -- ---- putting
 
@@ -80,7 +45,6 @@ put_append (i ∷ x) y b at =
 
 even_piece : (p : Piece) → length (insns_in (ops_of p)) ≡ slots_of (ops_of p)
 unfolding insns_in ops_of slots_of
-even_piece (P.Refused r) = refl
 even_piece P.Nothing = refl
 even_piece (P.One a) = refl
 even_piece (P.Two a b) = refl
@@ -101,9 +65,8 @@ pub ◌▻◌ : {b₀ b₁ b : List ℕ} {at s n : ℕ} {l : List Op} {p : Piece
 
 -- ---- the answer
 
-map_piece : (p : Piece) → map_in (ops_of p) ≡ M.Nothing
+map_piece : (p : Piece) → map_in (ops_of p) ≡ None
 unfolding map_in ops_of
-map_piece (P.Refused r) = refl
 map_piece P.Nothing = refl
 map_piece (P.One a) = refl
 map_piece (P.Two a b) = refl
@@ -116,34 +79,44 @@ map_append (map m ∷ l) p = refl
 map_append (ja to ∷ l) p = map_append l p
 map_append (jne to ∷ l) p = map_append l p
 
-map_run : (t : List Piece) (l : List Op) → map_in (run_ops l t) ≡ map_in l
-unfolding run_ops
-map_run [] l = refl
-map_run (p ∷ t) l = map_run t (l ++ ops_of p) ∙ map_append l p
+map_chain : (t : List Piece) (l : List Op) → map_in (chain l t) ≡ map_in l
+unfolding chain
+map_chain [] l = refl
+map_chain (p ∷ t) l = map_chain t (l ++ ops_of p) ∙ map_append l p
 
-map_told : (m : MapUse) → map_in (map_ops m) ≡ m
+map_told : (m : Option ℕ) → map_in (map_ops m) ≡ m
 unfolding map_in map_ops
-map_told M.Nothing = refl
-map_told (M.Map m) = refl
+map_told None = refl
+map_told (Some m) = refl
 
-pub told : {o : Outcome} {m : MapUse} {s : ℕ} (l : List Op) → o ≡ Fine → map_in l ≡ m → s ≡ slots_of l → (record { outcome = o; map = m; slots = s }) ≡ held (becomes l)
+pub told : {m : Option ℕ} {s : ℕ} (l : List Op) → map_in l ≡ m → s ≡ slots_of l → Ok (record { map = m; slots = s }) ≡ held (becomes l)
 unfolding held
-told l e f g = rw (e, sym f, g)
+told l e f = rw (sym e, f)
 
-module _ {b₀ : List ℕ} {at : ℕ} (m : MapUse) (t : List Piece) where
-  pub put_all : {b : List ℕ} {slots : ℕ} {o : Outcome} → o ≡ outcomes Fine t → o ≡ Fine → Holds b₀ at (run_ops (map_ops m) t) b slots
-      → Puts b₀ at (run (becomes (map_ops m)) t) b (record { outcome = o; map = m; slots = slots })
-  unfolding all put_lowered
-  put_all e f h =
-      let l = run_ops (map_ops m) t in
-      let x : run (becomes (map_ops m)) t ≡ becomes l = run_all t Fine (map_ops m) ∙ ap (λ (o : Outcome). all o l) (sym e ∙ f) in
-      rw x (record { code = h.code; answer = told l f (map_run t (map_ops m) ∙ map_told m) h.filled })
+-- ---- pieces
 
-  pub put_none : {r : Reason} {o : Outcome} {e : Emitted} → o ≡ outcomes Fine t → o ≡ Refused r → e ≡ held (refused r) → Puts b₀ at (run (becomes (map_ops m)) t) b₀ e
-  unfolding all put_lowered
-  put_none {r} e f h =
-      let x : run (becomes (map_ops m)) t ≡ refused r = run_all t Fine (map_ops m) ∙ ap (λ (o : Outcome). all o (run_ops (map_ops m) t)) (sym e ∙ f) in
-      rw x (record { code = refl; answer = h })
+-- a piece more
+chain_append : (s t : List Piece) (l : List Op) → chain l (s ++ t) ≡ chain (chain l s) t
+unfolding chain
+chain_append [] t l = refl
+chain_append (p ∷ s) t l = chain_append s t (l ++ ops_of p)
+
+module _ {b₀ b : List ℕ} {at slots : ℕ} (m : Option ℕ) (t : List Piece) where
+  pub put_more : {b₁ : List ℕ} {after : ℕ} (p : Piece) → Holds b₀ at (chain (map_ops m) t) b slots → PutPiece b at slots p b₁ after → Holds b₀ at (chain (map_ops m) (t ++ p ∷ [])) b₁ after
+  unfolding chain
+  put_more p h q = rw (chain_append t (p ∷ []) (map_ops m)) (h ▻ q)
+
+  pub put_all : Holds b₀ at (chain (map_ops m) t) b slots → Puts b₀ at (becomes (chain (map_ops m) t)) b (Ok (record { map = m; slots = slots }))
+  unfolding put_lowered
+  put_all h = record { code = h.code; answer = told (chain (map_ops m) t) (map_chain t (map_ops m) ∙ map_told m) h.filled }
+
+-- the pieces up to k, and one more; all of them
+module _ {b₀ b : List ℕ} {at slots k : ℕ} (m : Option ℕ) (given : List Piece) (h : Holds b₀ at (chain (map_ops m) (take k given)) b slots) where
+  pub put_next : {b₁ : List ℕ} {after : ℕ} (p : Piece) → k < length given → PutPiece b at slots (get_or given k p) b₁ after → Holds b₀ at (chain (map_ops m) (take (k + 1) given)) b₁ after
+  put_next p lt q = rw (take_more given k p lt) (put_more m (take k given) (get_or given k p) h q)
+
+  pub all_put : length given ≤ k → Puts b₀ at (becomes (chain (map_ops m) given)) b (Ok (record { map = m; slots = slots }))
+  all_put le = put_all m given (rw (take_all k given le) at h)
 
 -- ---- a piece, instruction by instruction
 
@@ -153,10 +126,6 @@ unfolding put_at
 more b₀ at s t i l n e f = f ∙ ap₂ (λ (x : List ℕ) (k : ℕ). put_at x k l) e (omega arith)
 
 module _ (b₀ : List ℕ) (at s : ℕ) {p : Piece} where
-  pub put_refused : {r : Reason} → p ≡ P.Refused r → PutPiece b₀ at s p b₀ s
-  unfolding ops_of insns_in slots_of put_at
-  put_refused e = rw e (record { code = refl; next = omega arith; most = omega arith })
-
   pub put_nothing : p ≡ P.Nothing → PutPiece b₀ at s p b₀ s
   unfolding ops_of insns_in slots_of put_at
   put_nothing e = rw e (record { code = refl; next = omega arith; most = omega arith })
@@ -176,12 +145,12 @@ zero_word : insn_of 0 ≡ zero_insn
 unfolding insn_of insn_at signed_at unsigned_at unsigned_bytes lowest le
 zero_word = refl
 
-module _ (b₀ : List ℕ) (at : ℕ) {m : MapUse} where
-  pub put_no_map : m ≡ M.Nothing → Holds b₀ at (map_ops m) b₀ 0
+module _ (b₀ : List ℕ) (at : ℕ) {m : Option ℕ} where
+  pub put_no_map : m ≡ None → Holds b₀ at (map_ops m) b₀ 0
   unfolding map_ops insns_in slots_of put_at
   put_no_map e = rw e (record { code = refl; filled = refl; even = refl })
 
-  pub put_a_map : {n : ℕ} {i : Insn} {b₁ b₂ : List ℕ} → m ≡ M.Map n → i ≡ wide_insn → b₁ ≡ store b₀ (at + 8 * 0) (bytes_of i) → b₂ ≡ store b₁ (at + 8 * 1) (bytes_of (insn_of 0))
+  pub put_a_map : {n : ℕ} {i : Insn} {b₁ b₂ : List ℕ} → m ≡ Some n → i ≡ wide_insn → b₁ ≡ store b₀ (at + 8 * 0) (bytes_of i) → b₂ ≡ store b₁ (at + 8 * 1) (bytes_of (insn_of 0))
       → Holds b₀ at (map_ops m) b₂ 2
   unfolding map_ops insns_in slots_of put_at
   put_a_map e h f g =
@@ -194,10 +163,10 @@ module _ (b₀ : List ℕ) (at : ℕ) {m : MapUse} where
 
 -- ---- one step
 
-pub step_is : {s : Step} {x : Lowered} {i : Insn} → step_of s ≡ x → s ≡ S.Is i → becomes (plain i ∷ []) ≡ x
+pub step_is : {s : Result Insn Reason} {x : Lowered} {i : Insn} → step_of s ≡ x → s ≡ Ok i → becomes (plain i ∷ []) ≡ x
 unfolding step_of
 step_is e f = ap step_of (sym f) ∙ e
 
-pub step_refused : {s : Step} {x : Lowered} {r : Reason} → step_of s ≡ x → s ≡ S.Refused r → refused r ≡ x
+pub step_refused : {s : Result Insn Reason} {x : Lowered} {r : Reason} → step_of s ≡ x → s ≡ Err r → refused r ≡ x
 unfolding step_of
 step_refused e f = ap step_of (sym f) ∙ e

@@ -1,5 +1,5 @@
 -- What each instruction becomes.
-use Rattle.std.specs.Prelude.{ℕ, suc, ◌+◌, Bool, true, false, List, [], ◌∷◌, eqb, ℤ, pos, length}
+use Rattle.std.specs.Prelude.{ℕ, suc, ◌+◌, Bool, true, false, List, [], ◌∷◌, eqb, ℤ, pos, length, None, Option, Some}
 use Rattle.wire.specs.Pick.{pick, either}
 use Rattle.wire.specs.Range.{fits16, fits32}
 use Rattle.ir.specs.Operands.{list_of}
@@ -11,8 +11,6 @@ use Rattle.ir.specs.declared.Opcode.TheVariants as C
 use Rattle.ir.specs.declared.Instruction.{Instruction}
 use Rattle.insn.specs.Rfc.{LDX, STX}
 use Rattle.insn.specs.Form.{mem_code}
-use Rattle.insn.specs.declared.MemCode.{MemCode}
-use Rattle.insn.specs.declared.MemCode.TheVariants as M
 use Rattle.insn.specs.declared.form.Size.TheVariants.{Dw}
 use Rattle.insn.specs.declared.form.Form.TheVariants.{Ldx, AluImm, AluReg, MovImm, Ja, JeqImm, Exit}
 use Rattle.frame.specs.Cell.{Frame}
@@ -45,9 +43,9 @@ on_none [] f = f
 on_none (a ∷ rest) f = refused (Re.Count (length (a ∷ rest)))
 
 -- a load or store of a size that is checked: 14, 15
-unfoldable pub sized : MemCode → Reason → (ℕ → Lowered) → Lowered
-sized (M.Code code) bad f = f code
-sized M.Unsupported bad f = refused bad
+unfoldable pub sized : Option ℕ → Reason → (ℕ → Lowered) → Lowered
+sized (Some code) bad f = f code
+sized None bad f = refused bad
 
 unfoldable pub mem : ℕ → ℕ → ℕ → ℤ → Lowered
 mem code dst src off = becomes (plain (record { code = code; dst = dst; src = src; off = off; imm = pos 0 }) ∷ [])

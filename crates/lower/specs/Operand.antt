@@ -1,5 +1,5 @@
 -- "Load", "Addr", "Keep" and "Map".
-use Rattle.std.specs.Prelude.{ℕ, suc, ◌%◌, List, [], ◌∷◌, ℤ, pos}
+use Rattle.std.specs.Prelude.{ℕ, suc, ◌%◌, List, [], ◌∷◌, ℤ, pos, None, Option, Some}
 use Rattle.wire.specs.Pick.{pick}
 use Rattle.wire.specs.Range.{fits32}
 use Rattle.ir.specs.declared.BinaryOp.TheVariants.{Add}
@@ -8,8 +8,6 @@ use Rattle.ir.specs.declared.Operand.TheVariants.{Var, Immediate}
 use Rattle.insn.specs.declared.form.Size.TheVariants.{Dw}
 use Rattle.insn.specs.declared.form.Form.TheVariants.{Ldx, Stx, AluImm, MovImm, MovReg, Call}
 use Rattle.frame.specs.Cell.{Frame}
-use Rattle.frame.specs.declared.Cell.{Cell}
-use Rattle.frame.specs.declared.Cell.TheVariants.{At, Missing}
 use Rattle.lower.specs.Op.{Op, Lowered, becomes, refused, map, insn, ◌▸◌}
 use Rattle.lower.specs.declared.Reason.{Reason}
 use Rattle.lower.specs.declared.Reason.TheVariants as Re
@@ -29,9 +27,9 @@ unfoldable pub call : ℕ → Lowered
 call helper = insn Call 0 0 (pos 0) (pos helper)
 
 -- a variable's cell: 20 where it has none
-unfoldable pub on_cell : ℕ → Cell → (ℤ → Lowered) → Lowered
-on_cell v (At offset) f = f offset
-on_cell v Missing f = refused (Re.NoCell v)
+unfoldable pub on_cell : ℕ → Option ℤ → (ℤ → Lowered) → Lowered
+on_cell v (Some offset) f = f offset
+on_cell v None f = refused (Re.NoCell v)
 
 -- "load r": a variable: LDX DW from its cell; an immediate: MOV64
 unfoldable pub load : Frame → ℕ → Operand → Lowered

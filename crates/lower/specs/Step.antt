@@ -1,5 +1,5 @@
 -- One instruction that may be refused, pieces of several, and what putting them leaves.
-use Rattle.std.specs.Prelude.{ℕ, ◌+◌, ◌≤◌, ◌≡◌, Bool, true, false, List, [], ◌∷◌, ℤ, pos, length}
+use Rattle.std.specs.Prelude.{ℕ, ◌+◌, ◌≤◌, ◌≡◌, Bool, true, false, List, [], ◌∷◌, ◌++◌, ℤ, pos, length, Err, None, Ok, Option, Result, Some}
 use Rattle.wire.specs.Number.{bytes_before}
 use Rattle.wire.specs.Pick.{pick}
 use Rattle.wire.specs.Range.{fits32}
@@ -15,29 +15,17 @@ use Rattle.lower.specs.Put.{insns_in, put_at, put_lowered}
 use Rattle.lower.specs.Held.{map_in, held}
 use Rattle.lower.specs.declared.Reason.{Reason}
 use Rattle.lower.specs.declared.Reason.TheVariants as Re
-use Rattle.lower.specs.declared.Outcome.{Outcome}
-use Rattle.lower.specs.declared.Outcome.TheVariants.{Fine, Refused}
-use Rattle.lower.specs.declared.MapUse.{MapUse}
-use Rattle.lower.specs.declared.MapUse.TheVariants as M
 use Rattle.lower.specs.declared.Emitted.{Emitted}
-use Rattle.lower.specs.declared.piece.Encoded.{Encoded}
-use Rattle.lower.specs.declared.piece.Encoded.TheVariants as W
-use Rattle.lower.specs.declared.piece.Step.{Step}
-use Rattle.lower.specs.declared.piece.Step.TheVariants as S
 use Rattle.lower.specs.declared.piece.Piece.{Piece}
 use Rattle.lower.specs.declared.piece.Piece.TheVariants as P
+use Rattle.insn.specs.declared.Insn.{Insn}
 
 -- ---- steps and pieces
 
--- operations, where nothing of them is refused
-unfoldable pub all : Outcome → List Op → Lowered
-all Fine l = becomes l
-all (Refused r) l = refused r
-
 -- what a step becomes
-unfoldable pub step_of : Step → Lowered
-step_of (S.Is i) = becomes (plain i ∷ [])
-step_of (S.Refused r) = refused r
+unfoldable pub step_of : Result Insn Reason → Lowered
+step_of (Ok i) = becomes (plain i ∷ [])
+step_of (Err r) = refused r
 
 -- words one after the other, each an instruction
 unfoldable pub ops_in : List ℕ → List Op
@@ -47,30 +35,20 @@ ops_in (w ∷ l) = plain (insn_of w) ∷ ops_in l
 unfoldable pub words : List ℕ → Lowered
 words l = becomes (ops_in l)
 
--- what a word becomes, and why it is refused where it is
-unfoldable pub word_is : Encoded → Lowered
-word_is (W.Is w) = words (w ∷ [])
-word_is (W.Refused r) = refused r
+-- what a word becomes
+unfoldable pub word_is : Result ℕ Reason → Lowered
+word_is (Ok w) = words (w ∷ [])
+word_is (Err r) = refused r
 
-unfoldable pub reason_of : Encoded → Reason
-reason_of (W.Is w) = Re.Helper16
-reason_of (W.Refused r) = r
-
--- what a piece becomes: its refusal, its operations
-unfoldable pub outcome_of : Piece → Outcome
-outcome_of (P.Refused r) = Refused r
-outcome_of P.Nothing = Fine
-outcome_of (P.One a) = Fine
-outcome_of (P.Two a b) = Fine
-
+-- what a piece becomes
 unfoldable pub ops_of : Piece → List Op
-ops_of (P.Refused r) = []
 ops_of P.Nothing = []
 ops_of (P.One a) = plain (insn_of a) ∷ []
 ops_of (P.Two a b) = plain (insn_of a) ∷ plain (insn_of b) ∷ []
 
-unfoldable pub piece_of : Piece → Lowered
-piece_of p = all (outcome_of p) (ops_of p)
+unfoldable pub piece_of : Result Piece Reason → Lowered
+piece_of (Ok p) = becomes (ops_of p)
+piece_of (Err r) = refused r
 
 unfoldable pub one : ℕ → ℕ → ℕ → ℤ → ℤ → Lowered
 one code dst src off imm = becomes (plain (record { code = code; dst = dst; src = src; off = off; imm = imm }) ∷ [])
@@ -103,15 +81,15 @@ null_rest false = constant 0 (pos 1)
 
 -- ---- pieces one after the other
 
--- the first refusal of two
-unfoldable pub first_of : Outcome → Outcome → Outcome
-first_of Fine p = p
-first_of (Refused r) p = Refused r
+-- operations, and then those of pieces
+unfoldable pub chain : List Op → List Piece → List Op
+chain l [] = l
+chain l (p ∷ t) = chain (l ++ ops_of p) t
 
 -- the load of a map's address, where there is one
-unfoldable pub map_ops : MapUse → List Op
-map_ops M.Nothing = []
-map_ops (M.Map m) = map m ∷ []
+unfoldable pub map_ops : Option ℕ → List Op
+map_ops None = []
+map_ops (Some m) = map m ∷ []
 
 -- b is b₀ with the instructions of l from `at` on, which fill so many slots
 pub record Holds (b₀ : List ℕ) (at : ℕ) (l : List Op) (b : List ℕ) (slots : ℕ) : Type 0 where
@@ -126,6 +104,6 @@ pub record PutPiece (b₀ : List ℕ) (at slot : ℕ) (p : Piece) (b : List ℕ)
   pub most : after ≤ slot + 2
 
 -- what x becomes is put from `at` on, and told
-pub record Puts (b₀ : List ℕ) (at : ℕ) (x : Lowered) (b : List ℕ) (e : Emitted) : Type 0 where
+pub record Puts (b₀ : List ℕ) (at : ℕ) (x : Lowered) (b : List ℕ) (e : Result Emitted Reason) : Type 0 where
   pub code : b ≡ put_lowered b₀ at x
   pub answer : e ≡ held x

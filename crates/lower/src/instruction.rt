@@ -1,24 +1,40 @@
 // What each opcode becomes, in 01's order: the count of operands, then word by word or piece by piece; nothing is put before all are decided. The operands stand in a payload from byte 16 on.
 ghost use Rattle.std.specs.Prelude.{◌<◌, false, [], ◌∷◌, ◌≡◌, eqb};
 ghost use Rattle.wire.specs.Pick.{either};
-ghost use Rattle.operand.specs.Operand.{operand_in, operands_in};
+ghost use Rattle.operand.specs.Operand.{operand_in};
 ghost use Rattle.ir.specs.declared.Opcode.TheVariants as C;
 ghost use Rattle.ir.specs.declared.Operand.TheVariants as O;
-ghost use Rattle.frame.specs.Hint.{frame_by};
+ghost use Rattle.frame.specs.Lent.{frame_in};
 ghost use Rattle.lower.specs.Op.{◌▸◌};
 ghost use Rattle.lower.specs.Operand.{call, load, keep};
-ghost use Rattle.lower.specs.Instruction.{opcode, operate, from_context, helper_call, after_first, after_two};
+ghost use Rattle.lower.specs.Instruction.{operate, from_context, helper_call, after_first, after_two};
+ghost use Rattle.lower.specs.Payload.{result_in, count_in, operands_of, instruction_as};
 ghost use Rattle.lower.specs.Step.{words, Puts};
 
 use crate::piece::{
-    Encoded, call_update, constant, constant_word, context_address, keep, keep_word, load,
-    load_context, load_word, next, null_rest, null_test, null_zero, plain, put_scratch, reason,
-    store, take_addr, word,
+    call_update, constant, constant_word, context_address, keep, keep_word, load, load_context,
+    load_word, next, null_rest, null_test, null_zero, plain, put_scratch, store, take_addr, word,
 };
-use crate::{Emitted, MapUse, Reason, list, refused};
+use crate::{Emitted, Reason, list};
+use frame::Frame;
 use insn::{BPF_CALL, BPF_MOV64_IMM, R0, R1, R2, R3};
 use ir::{BinaryOp, Operand};
 use operand::operand_in;
+
+// ---- what every payload has
+
+// The variable that keeps the result, and how many operands there are.
+fn result_in(payload: &[u8]) -> u32
+    ensures { result ≡ result_in payload.now }
+{
+    wire::get_u32(payload, 0)
+}
+
+fn count_in(payload: &[u8]) -> u8
+    ensures { result ≡ count_in payload.now }
+{
+    wire::get_u8(payload, 6)
+}
 
 // ---- alu
 
@@ -26,72 +42,53 @@ use operand::operand_in;
 fn by_constant(
     code: &mut [u8],
     at: usize,
-    variables: &[u32],
-    hints: &[u8; 256],
+    frame: Frame<'_>,
     res: u32,
     op: BinaryOp,
     a: u64,
     z: i64,
-) -> Emitted
-    ensures { Puts code.old at (words (a ∷ []) ▸ operate (frame_by variables.now hints.now) op (O.Immediate z) ▸ keep (frame_by variables.now hints.now) res) code.new result }
+) -> Result<Emitted, Reason>
+    ensures { Puts code.old at (words (a ∷ []) ▸ operate (frame_in frame.entry) op (O.Immediate z) ▸ keep (frame_in frame.entry) res) code.new result }
 {
-    let second = constant_word(insn::alu64_imm(op), R0, z);
-    let Encoded::Is(b) = second else {
-        return refused(reason(second));
-    };
-    let last = keep_word(variables, hints, res);
-    let Encoded::Is(c) = last else {
-        return refused(reason(last));
-    };
-    list::words_three(code, at, a, b, c)
+    let b = constant_word(insn::alu64_imm(op), R0, z)?;
+    let c = keep_word(frame, res)?;
+    Ok(list::words(code, at, [a, b, c]))
 }
 
 fn by_variable(
     code: &mut [u8],
     at: usize,
-    variables: &[u32],
-    hints: &[u8; 256],
+    frame: Frame<'_>,
     res: u32,
     op: BinaryOp,
     a: u64,
     v: u32,
-) -> Emitted
-    ensures { Puts code.old at (words (a ∷ []) ▸ operate (frame_by variables.now hints.now) op (O.Var v) ▸ keep (frame_by variables.now hints.now) res) code.new result }
+) -> Result<Emitted, Reason>
+    ensures { Puts code.old at (words (a ∷ []) ▸ operate (frame_in frame.entry) op (O.Var v) ▸ keep (frame_in frame.entry) res) code.new result }
 {
-    let second = load_word(variables, hints, R1, Operand::Var(v));
-    let Encoded::Is(b) = second else {
-        return refused(reason(second));
-    };
+    let b = load_word(frame, R1, Operand::Var(v))?;
     let c = word(insn::alu64_reg(op), R0, R1, 0, 0);
-    let last = keep_word(variables, hints, res);
-    let Encoded::Is(d) = last else {
-        return refused(reason(last));
-    };
-    list::words_four(code, at, a, b, c, d)
+    let d = keep_word(frame, res)?;
+    Ok(list::words(code, at, [a, b, c, d]))
 }
 
 pub fn binary(
     code: &mut [u8],
     at: usize,
-    variables: &[u32],
-    hints: &[u8; 256],
-    res: u32,
+    frame: Frame<'_>,
     op: BinaryOp,
-    n: u8,
     payload: &[u8],
-) -> Emitted
-    ensures { Puts code.old at (opcode (frame_by variables.now hints.now) 0 false res (C.Binary op) (operands_in payload.now 16 n)) code.new result }
+) -> Result<Emitted, Reason>
+    ensures { Puts code.old at (instruction_as (frame_in frame.entry) 0 false (C.Binary op) payload.now) code.new result }
 {
+    let n = count_in(payload);
     if n != 2 {
-        return refused(Reason::Count(n));
+        return Err(Reason::Count(n));
     }
-    let first = load_word(variables, hints, R0, operand_in(payload, 16));
-    let Encoded::Is(a) = first else {
-        return refused(reason(first));
-    };
+    let a = load_word(frame, R0, operand_in(payload, 16))?;
     match operand_in(payload, 25) {
-        Operand::Immediate(z) => by_constant(code, at, variables, hints, res, op, a, z),
-        Operand::Var(v) => by_variable(code, at, variables, hints, res, op, a, v),
+        Operand::Immediate(z) => by_constant(code, at, frame, result_in(payload), op, a, z),
+        Operand::Var(v) => by_variable(code, at, frame, result_in(payload), op, a, v),
     }
 }
 
@@ -100,107 +97,78 @@ pub fn binary(
 pub fn load_key(
     code: &mut [u8],
     at: usize,
-    variables: &[u32],
-    hints: &[u8; 256],
-    res: u32,
-    n: u8,
+    frame: Frame<'_>,
     payload: &[u8],
-) -> Emitted
-    ensures { Puts code.old at (opcode (frame_by variables.now hints.now) 0 false res C.LoadKey (operands_in payload.now 16 n)) code.new result }
+) -> Result<Emitted, Reason>
+    ensures { Puts code.old at (instruction_as (frame_in frame.entry) 0 false C.LoadKey payload.now) code.new result }
 {
+    let n = count_in(payload);
     if n == 0 {
-        return refused(Reason::Count(0));
+        return Err(Reason::Count(0));
     }
-    let first = load_word(variables, hints, R1, operand_in(payload, 16));
-    let Encoded::Is(a) = first else {
-        return refused(reason(first));
-    };
+    let a = load_word(frame, R1, operand_in(payload, 16))?;
     let b = word(0x79, R0, R1, 0, 0);
-    let last = keep_word(variables, hints, res);
-    let Encoded::Is(c) = last else {
-        return refused(reason(last));
-    };
-    list::words_three(code, at, a, b, c)
+    let c = keep_word(frame, result_in(payload))?;
+    Ok(list::words(code, at, [a, b, c]))
 }
 
 pub fn store_value(
     code: &mut [u8],
     at: usize,
-    variables: &[u32],
-    hints: &[u8; 256],
+    frame: Frame<'_>,
     size: u8,
-    n: u8,
     payload: &[u8],
-) -> Emitted
-    ensures { Puts code.old at (opcode (frame_by variables.now hints.now) 0 false 0 (C.Store size) (operands_in payload.now 16 n)) code.new result }
+) -> Result<Emitted, Reason>
+    ensures { Puts code.old at (instruction_as (frame_in frame.entry) 0 false (C.Store size) payload.now) code.new result }
 {
+    let n = count_in(payload);
     if n != 2 {
-        return refused(Reason::Count(n));
+        return Err(Reason::Count(n));
     }
-    let first = load_word(variables, hints, R1, operand_in(payload, 16));
-    let Encoded::Is(a) = first else {
-        return refused(reason(first));
-    };
-    let second = load_word(variables, hints, R2, operand_in(payload, 25));
-    let Encoded::Is(b) = second else {
-        return refused(reason(second));
-    };
-    let last = store(size);
-    let Encoded::Is(c) = last else {
-        return refused(reason(last));
-    };
-    list::words_three(code, at, a, b, c)
+    let a = load_word(frame, R1, operand_in(payload, 16))?;
+    let b = load_word(frame, R2, operand_in(payload, 25))?;
+    let c = store(size)?;
+    Ok(list::words(code, at, [a, b, c]))
 }
 
 pub fn from_context(
     code: &mut [u8],
     at: usize,
-    variables: &[u32],
-    hints: &[u8; 256],
-    res: u32,
+    frame: Frame<'_>,
     offset: i32,
     size: u8,
-) -> Emitted
-    ensures { Puts code.old at (from_context (frame_by variables.now hints.now) res offset size) code.new result }
+    payload: &[u8],
+) -> Result<Emitted, Reason>
+    ensures { Puts code.old at (from_context (frame_in frame.entry) (result_in payload.now) offset size) code.new result }
 {
-    let first = load_context(offset, size);
-    let Encoded::Is(a) = first else {
-        return refused(reason(first));
-    };
-    let last = keep_word(variables, hints, res);
-    let Encoded::Is(b) = last else {
-        return refused(reason(last));
-    };
-    list::words_two(code, at, a, b)
+    let a = load_context(offset, size)?;
+    let b = keep_word(frame, result_in(payload))?;
+    Ok(list::words(code, at, [a, b]))
 }
 
 pub fn copy_context(
     code: &mut [u8],
     at: usize,
-    variables: &[u32],
-    hints: &[u8; 256],
-    res: u32,
+    frame: Frame<'_>,
     offset: i32,
     size: u32,
-    n: u8,
     payload: &[u8],
-) -> Emitted
-    ensures { Puts code.old at (opcode (frame_by variables.now hints.now) 0 false res (C.CopyCtxToMem offset size) (operands_in payload.now 16 n)) code.new result }
+) -> Result<Emitted, Reason>
+    ensures { Puts code.old at (instruction_as (frame_in frame.entry) 0 false (C.CopyCtxToMem offset size) payload.now) code.new result }
 {
+    let n = count_in(payload);
     if n == 0 {
-        return refused(Reason::Count(0));
+        return Err(Reason::Count(0));
     }
     let a = operand_in(payload, 16);
-    list::five(
-        code,
-        at,
-        MapUse::Nothing,
-        load(variables, hints, R1, a),
-        constant(R2, size as i64),
+    let pieces = [
+        load(frame, R1, a)?,
+        constant(R2, size as i64)?,
         context_address(offset),
         plain(BPF_CALL, 0, 0, 0, 113),
-        keep(variables, hints, res),
-    )
+        keep(frame, result_in(payload))?,
+    ];
+    Ok(list::pieces(code, at, None, pieces))
 }
 
 // ---- helpers
@@ -228,6 +196,7 @@ fn takes_three(id: u32) -> bool
     }
 }
 
+#[tactic(auto, unfolding(crate::specs::Step::words, crate::specs::Step::ops_in, crate::specs::Operand::call, crate::specs::Op::insn, insn::specs::Form::opcode_of))]
 fn call_word(id: u32) -> u64
     requires { id < 128 }
     ensures { words (result ∷ []) ≡ call id }
@@ -238,82 +207,62 @@ fn call_word(id: u32) -> u64
 fn call_none(
     code: &mut [u8],
     at: usize,
-    variables: &[u32],
-    hints: &[u8; 256],
+    frame: Frame<'_>,
     res: u32,
     id: u32,
-) -> Emitted
+) -> Result<Emitted, Reason>
     requires { id < 128 }
-    ensures { Puts code.old at (call id ▸ keep (frame_by variables.now hints.now) res) code.new result }
+    ensures { Puts code.old at (call id ▸ keep (frame_in frame.entry) res) code.new result }
 {
     let a = call_word(id);
-    let last = keep_word(variables, hints, res);
-    let Encoded::Is(b) = last else {
-        return refused(reason(last));
-    };
-    list::words_two(code, at, a, b)
+    let b = keep_word(frame, res)?;
+    Ok(list::words(code, at, [a, b]))
 }
 
 fn call_three(
     code: &mut [u8],
     at: usize,
-    variables: &[u32],
-    hints: &[u8; 256],
-    res: u32,
+    frame: Frame<'_>,
     id: u32,
     payload: &[u8],
-) -> Emitted
+) -> Result<Emitted, Reason>
     requires { id < 128 }
-    ensures { Puts code.old at (load (frame_by variables.now hints.now) 1 (operand_in payload.now 16) ▸ load (frame_by variables.now hints.now) 2 (operand_in payload.now 25) ▸ load (frame_by variables.now hints.now) 3 (operand_in payload.now 34) ▸ call id ▸ keep (frame_by variables.now hints.now) res) code.new result }
+    ensures { Puts code.old at (load (frame_in frame.entry) 1 (operand_in payload.now 16) ▸ load (frame_in frame.entry) 2 (operand_in payload.now 25) ▸ load (frame_in frame.entry) 3 (operand_in payload.now 34) ▸ call id ▸ keep (frame_in frame.entry) (result_in payload.now)) code.new result }
 {
-    let first = load_word(variables, hints, R1, operand_in(payload, 16));
-    let Encoded::Is(a) = first else {
-        return refused(reason(first));
-    };
-    let second = load_word(variables, hints, R2, operand_in(payload, 25));
-    let Encoded::Is(b) = second else {
-        return refused(reason(second));
-    };
-    let third = load_word(variables, hints, R3, operand_in(payload, 34));
-    let Encoded::Is(c) = third else {
-        return refused(reason(third));
-    };
+    let a = load_word(frame, R1, operand_in(payload, 16))?;
+    let b = load_word(frame, R2, operand_in(payload, 25))?;
+    let c = load_word(frame, R3, operand_in(payload, 34))?;
     let d = call_word(id);
-    let last = keep_word(variables, hints, res);
-    let Encoded::Is(e) = last else {
-        return refused(reason(last));
-    };
-    list::words_five(code, at, a, b, c, d, e)
+    let e = keep_word(frame, result_in(payload))?;
+    Ok(list::words(code, at, [a, b, c, d, e]))
 }
 
 pub fn helper_call(
     code: &mut [u8],
     at: usize,
-    variables: &[u32],
-    hints: &[u8; 256],
-    res: u32,
+    frame: Frame<'_>,
     id: u32,
-    n: u8,
     payload: &[u8],
-) -> Emitted
-    ensures { Puts code.old at (helper_call (frame_by variables.now hints.now) res id (operands_in payload.now 16 n)) code.new result }
+) -> Result<Emitted, Reason>
+    ensures { Puts code.old at (helper_call (frame_in frame.entry) (result_in payload.now) id (operands_of payload.now)) code.new result }
 {
+    let n = count_in(payload);
     if takes_none(id) {
         if n != 0 {
-            return refused(Reason::Count(n));
+            return Err(Reason::Count(n));
         }
-        return call_none(code, at, variables, hints, res, id);
+        return call_none(code, at, frame, result_in(payload), id);
     }
     if id == 16 {
-        return refused(Reason::Helper16);
+        return Err(Reason::Helper16);
     }
     if takes_three(id) {
         if n != 3 {
-            return refused(Reason::Count(n));
+            return Err(Reason::Count(n));
         }
-        return call_three(code, at, variables, hints, res, id, payload);
+        return call_three(code, at, frame, id, payload);
     }
-    refused(Reason::Helper(id))
+    Err(Reason::Helper(id))
 }
 
 // ---- maps
@@ -321,110 +270,95 @@ pub fn helper_call(
 pub fn call_map(
     code: &mut [u8],
     at: usize,
-    variables: &[u32],
-    hints: &[u8; 256],
+    frame: Frame<'_>,
     j: u8,
-    res: u32,
     map: u32,
-    n: u8,
     payload: &[u8],
-) -> Emitted
-    ensures { Puts code.old at (opcode (frame_by variables.now hints.now) j false res (C.CallMap map) (operands_in payload.now 16 n)) code.new result }
+) -> Result<Emitted, Reason>
+    ensures { Puts code.old at (instruction_as (frame_in frame.entry) j false (C.CallMap map) payload.now) code.new result }
 {
+    let n = count_in(payload);
     if n == 0 {
-        return refused(Reason::Count(0));
+        return Err(Reason::Count(0));
     }
     let a = operand_in(payload, 16);
-    list::four(
-        code,
-        at,
-        MapUse::Map(map),
-        put_scratch(variables, j, R2, a),
-        take_addr(variables, hints, j, R2, a),
+    let pieces = [
+        put_scratch(frame, j, R2, a)?,
+        take_addr(frame, j, R2, a)?,
         plain(BPF_CALL, 0, 0, 0, 1),
-        keep(variables, hints, res),
-    )
+        keep(frame, result_in(payload))?,
+    ];
+    Ok(list::pieces(code, at, Some(map), pieces))
 }
 
 pub fn update_map(
     code: &mut [u8],
     at: usize,
-    variables: &[u32],
-    hints: &[u8; 256],
+    frame: Frame<'_>,
     j: u8,
-    res: u32,
     map: u32,
-    n: u8,
     payload: &[u8],
-) -> Emitted
-    ensures { Puts code.old at (opcode (frame_by variables.now hints.now) j false res (C.UpdateMap map) (operands_in payload.now 16 n)) code.new result }
+) -> Result<Emitted, Reason>
+    ensures { Puts code.old at (instruction_as (frame_in frame.entry) j false (C.UpdateMap map) payload.now) code.new result }
 {
+    let n = count_in(payload);
     if n != 2 {
-        return refused(Reason::Count(n));
+        return Err(Reason::Count(n));
     }
     let a = operand_in(payload, 16);
     let b = operand_in(payload, 25);
     let k = next(j, a);
-    list::six(
-        code,
-        at,
-        MapUse::Map(map),
-        put_scratch(variables, j, R2, a),
-        take_addr(variables, hints, j, R2, a),
-        put_scratch(variables, k, R3, b),
-        take_addr(variables, hints, k, R3, b),
+    let pieces = [
+        put_scratch(frame, j, R2, a)?,
+        take_addr(frame, j, R2, a)?,
+        put_scratch(frame, k, R3, b)?,
+        take_addr(frame, k, R3, b)?,
         call_update(),
-        keep(variables, hints, res),
-    )
+        keep(frame, result_in(payload))?,
+    ];
+    Ok(list::pieces(code, at, Some(map), pieces))
 }
 
 pub fn reserve(
     code: &mut [u8],
     at: usize,
-    variables: &[u32],
-    hints: &[u8; 256],
-    res: u32,
+    frame: Frame<'_>,
     map: u32,
     size: u32,
-) -> Emitted
-    ensures { Puts code.old at (opcode (frame_by variables.now hints.now) 0 false res (C.RingBufReserve map size) []) code.new result }
+    payload: &[u8],
+) -> Result<Emitted, Reason>
+    ensures { Puts code.old at (instruction_as (frame_in frame.entry) 0 false (C.RingBufReserve map size) payload.now) code.new result }
 {
-    list::four(
-        code,
-        at,
-        MapUse::Map(map),
-        constant(R2, size as i64),
+    let pieces = [
+        constant(R2, size as i64)?,
         plain(BPF_MOV64_IMM, R3, 0, 0, 0),
         plain(BPF_CALL, 0, 0, 0, 131),
-        keep(variables, hints, res),
-    )
+        keep(frame, result_in(payload))?,
+    ];
+    Ok(list::pieces(code, at, Some(map), pieces))
 }
 
 pub fn submit(
     code: &mut [u8],
     at: usize,
-    variables: &[u32],
-    hints: &[u8; 256],
-    res: u32,
-    n: u8,
+    frame: Frame<'_>,
     payload: &[u8],
-) -> Emitted
-    ensures { Puts code.old at (opcode (frame_by variables.now hints.now) 0 false res (C.RingBufSubmit 0) (operands_in payload.now 16 n)) code.new result }
+) -> Result<Emitted, Reason>
+    ensures { Puts code.old at (instruction_as (frame_in frame.entry) 0 false (C.RingBufSubmit 0) payload.now) code.new result }
 {
+    let n = count_in(payload);
     if n == 0 {
-        return refused(Reason::Count(0));
+        return Err(Reason::Count(0));
     }
     let a = operand_in(payload, 16);
-    list::five(
-        code,
-        at,
-        MapUse::Nothing,
-        load(variables, hints, R1, a),
+    let pieces = [
+        load(frame, R1, a)?,
         plain(BPF_MOV64_IMM, R2, 0, 0, 0),
         plain(BPF_CALL, 0, 0, 0, 132),
         plain(BPF_MOV64_IMM, R0, 0, 0, 0),
-        keep(variables, hints, res),
-    )
+        keep(frame, result_in(payload))?,
+    ];
+    Ok(list::pieces(code, at, None, pieces))
 }
 
 // ---- checks
@@ -432,47 +366,45 @@ pub fn submit(
 pub fn null_check(
     code: &mut [u8],
     at: usize,
-    variables: &[u32],
-    hints: &[u8; 256],
+    frame: Frame<'_>,
     condition: bool,
-    res: u32,
-    n: u8,
     payload: &[u8],
-) -> Emitted
-    ensures { Puts code.old at (opcode (frame_by variables.now hints.now) 0 condition res C.NullCheck (operands_in payload.now 16 n)) code.new result }
+) -> Result<Emitted, Reason>
+    ensures { Puts code.old at (instruction_as (frame_in frame.entry) 0 condition C.NullCheck payload.now) code.new result }
 {
+    let n = count_in(payload);
     if n == 0 {
-        return refused(Reason::Count(0));
+        return Err(Reason::Count(0));
     }
     let a = operand_in(payload, 16);
-    list::five(
-        code,
-        at,
-        MapUse::Nothing,
-        load(variables, hints, R0, a),
+    let pieces = [
+        load(frame, R0, a)?,
         null_test(condition),
         null_zero(condition),
         null_rest(condition),
-        keep(variables, hints, res),
-    )
+        keep(frame, result_in(payload))?,
+    ];
+    Ok(list::pieces(code, at, None, pieces))
 }
 
 // ---- the scratch ring
 
 // The ring's position after CallMap, and after UpdateMap.
-pub fn after_first(j: u8, n: u8, payload: &[u8]) -> u8
-    ensures { result ≡ after_first j (operands_in payload.now 16 n) }
+pub fn after_first(j: u8, payload: &[u8]) -> u8
+    ensures { result ≡ after_first j (operands_of payload.now) }
 {
+    let n = count_in(payload);
     if n == 0 {
         return j;
     }
     next(j, operand_in(payload, 16))
 }
 
-pub fn after_two(j: u8, n: u8, payload: &[u8]) -> u8
-    ensures { result ≡ after_two j (operands_in payload.now 16 n) }
+pub fn after_two(j: u8, payload: &[u8]) -> u8
+    ensures { result ≡ after_two j (operands_of payload.now) }
 {
-    let k = after_first(j, n, payload);
+    let n = count_in(payload);
+    let k = after_first(j, payload);
     if n < 2 {
         return k;
     }

@@ -1,13 +1,13 @@
-// Two to five words put one after the other; or four to six pieces, after the load of a map's address where there is one, or the first refusal and nothing put.
-ghost use Rattle.std.specs.Prelude.{◌+◌, ◌≤◌, ◌≡◌, [], ◌∷◌};
+// Words put one after the other, and pieces.
+ghost use Rattle.std.specs.Prelude.{◌+◌, ◌≤◌, ◌≡◌, Ok};
 ghost use Rattle.wire.specs.Le.{store};
 ghost use Rattle.wire.specs.Number.{bytes_before};
 ghost use Rattle.insn.specs.Layout.{bytes_of, insn_of};
-ghost use Rattle.lower.specs.Op.{becomes, ◌▸◌};
-ghost use Rattle.lower.specs.Step.{words, piece_of, map_ops, Holds, PutPiece, Puts};
+ghost use Rattle.lower.specs.Op.{becomes};
+ghost use Rattle.lower.specs.Step.{words, chain, map_ops, Holds, PutPiece, Puts};
 
-use crate::piece::{Piece, first, word};
-use crate::{Emitted, MapUse, Outcome, refused};
+use crate::Emitted;
+use crate::piece::{Piece, word};
 use wire::number::{SlotNumber, byte_offset};
 
 // ---- putting
@@ -25,13 +25,13 @@ fn put_slot(code: &mut [u8], at: usize, slot: SlotNumber, word: u64)
 const MAP_SLOTS: u32 = 2;
 
 // The load of a map's address, and the slot after it.
-fn put_map(code: &mut [u8], at: usize, map: MapUse) -> SlotNumber
+fn put_map(code: &mut [u8], at: usize, map: Option<u32>) -> SlotNumber
     ensures holds { Holds code.old at (map_ops map) code.new result.0 }
     ensures result_bound { result.0 ≤ 2 }
 {
     match map {
-        MapUse::Nothing => SlotNumber(0),
-        MapUse::Map(_) => {
+        None => SlotNumber(0),
+        Some(_) => {
             let wide = word(insn::BPF_LD_DW_IMM, insn::R1, 1, 0, 0);
             put_slot(code, at, SlotNumber(0), wide);
             put_slot(code, at, SlotNumber(1), 0);
@@ -46,7 +46,6 @@ fn put(code: &mut [u8], at: usize, slot: SlotNumber, p: Piece) -> SlotNumber
     ensures { PutPiece code.old at slot.0 p code.new result.0 }
 {
     match p {
-        Piece::Refused(_) => slot,
         Piece::Nothing => slot,
         Piece::One(a) => {
             put_slot(code, at, slot, a);
@@ -60,165 +59,34 @@ fn put(code: &mut [u8], at: usize, slot: SlotNumber, p: Piece) -> SlotNumber
     }
 }
 
-// ---- words
-
-pub fn words_two(code: &mut [u8], at: usize, a: u64, b: u64) -> Emitted
-    ensures { Puts code.old at (words (a ∷ b ∷ [])) code.new result }
-{
-    put_slot(code, at, SlotNumber(0), a);
-    put_slot(code, at, SlotNumber(1), b);
-    Emitted {
-        outcome: Outcome::Fine,
-        map: MapUse::Nothing,
-        slots: 2,
-    }
-}
-
-pub fn words_three(code: &mut [u8], at: usize, a: u64, b: u64, c: u64) -> Emitted
-    ensures { Puts code.old at (words (a ∷ b ∷ c ∷ [])) code.new result }
-{
-    put_slot(code, at, SlotNumber(0), a);
-    put_slot(code, at, SlotNumber(1), b);
-    put_slot(code, at, SlotNumber(2), c);
-    Emitted {
-        outcome: Outcome::Fine,
-        map: MapUse::Nothing,
-        slots: 3,
-    }
-}
-
-pub fn words_four(code: &mut [u8], at: usize, a: u64, b: u64, c: u64, d: u64) -> Emitted
-    ensures { Puts code.old at (words (a ∷ b ∷ c ∷ d ∷ [])) code.new result }
-{
-    put_slot(code, at, SlotNumber(0), a);
-    put_slot(code, at, SlotNumber(1), b);
-    put_slot(code, at, SlotNumber(2), c);
-    put_slot(code, at, SlotNumber(3), d);
-    Emitted {
-        outcome: Outcome::Fine,
-        map: MapUse::Nothing,
-        slots: 4,
-    }
-}
-
-pub fn words_five(code: &mut [u8], at: usize, a: u64, b: u64, c: u64, d: u64, e: u64) -> Emitted
-    ensures { Puts code.old at (words (a ∷ b ∷ c ∷ d ∷ e ∷ [])) code.new result }
-{
-    put_slot(code, at, SlotNumber(0), a);
-    put_slot(code, at, SlotNumber(1), b);
-    put_slot(code, at, SlotNumber(2), c);
-    put_slot(code, at, SlotNumber(3), d);
-    put_slot(code, at, SlotNumber(4), e);
-    Emitted {
-        outcome: Outcome::Fine,
-        map: MapUse::Nothing,
-        slots: 5,
-    }
-}
-
 // ---- lists
 
-pub fn four(
-    code: &mut [u8],
-    at: usize,
-    map: MapUse,
-    a: Piece,
-    b: Piece,
-    c: Piece,
-    d: Piece,
-) -> Emitted
-    ensures { Puts code.old at (becomes (map_ops map) ▸ piece_of a ▸ piece_of b ▸ piece_of c ▸ piece_of d) code.new result }
+pub fn words<const N: usize>(code: &mut [u8], at: usize, given: [u64; N]) -> Emitted
+    requires { N ≤ 5 }
+    ensures { Puts code.old at (words given.entry) code.new (Ok result) }
 {
-    let o = first(Outcome::Fine, a);
-    let o = first(o, b);
-    let o = first(o, c);
-    let o = first(o, d);
-    match o {
-        Outcome::Refused(r) => refused(r),
-        Outcome::Fine => {
-            let slot = put_map(code, at, map);
-            let slot = put(code, at, slot, a);
-            let slot = put(code, at, slot, b);
-            let slot = put(code, at, slot, c);
-            let after = put(code, at, slot, d);
-            Emitted {
-                outcome: o,
-                map,
-                slots: after.0,
-            }
-        }
+    for (k, w) in given.iter().enumerate() {
+        put_slot(code, at, SlotNumber(k as u32), *w);
+    }
+    Emitted {
+        map: None,
+        slots: N as u32,
     }
 }
 
-pub fn five(
+// Pieces, after the load of a map's address where there is one.
+pub fn pieces<const N: usize>(
     code: &mut [u8],
     at: usize,
-    map: MapUse,
-    a: Piece,
-    b: Piece,
-    c: Piece,
-    d: Piece,
-    e: Piece,
+    map: Option<u32>,
+    given: [Piece; N],
 ) -> Emitted
-    ensures { Puts code.old at (becomes (map_ops map) ▸ piece_of a ▸ piece_of b ▸ piece_of c ▸ piece_of d ▸ piece_of e) code.new result }
+    requires { N ≤ 6 }
+    ensures { Puts code.old at (becomes (chain (map_ops map) given.entry)) code.new (Ok result) }
 {
-    let o = first(Outcome::Fine, a);
-    let o = first(o, b);
-    let o = first(o, c);
-    let o = first(o, d);
-    let o = first(o, e);
-    match o {
-        Outcome::Refused(r) => refused(r),
-        Outcome::Fine => {
-            let slot = put_map(code, at, map);
-            let slot = put(code, at, slot, a);
-            let slot = put(code, at, slot, b);
-            let slot = put(code, at, slot, c);
-            let slot = put(code, at, slot, d);
-            let after = put(code, at, slot, e);
-            Emitted {
-                outcome: o,
-                map,
-                slots: after.0,
-            }
-        }
+    let mut slot = put_map(code, at, map);
+    for p in given.iter() {
+        slot = put(code, at, slot, *p);
     }
-}
-
-pub fn six(
-    code: &mut [u8],
-    at: usize,
-    map: MapUse,
-    a: Piece,
-    b: Piece,
-    c: Piece,
-    d: Piece,
-    e: Piece,
-    f: Piece,
-) -> Emitted
-    ensures { Puts code.old at (becomes (map_ops map) ▸ piece_of a ▸ piece_of b ▸ piece_of c ▸ piece_of d ▸ piece_of e ▸ piece_of f) code.new result }
-{
-    let o = first(Outcome::Fine, a);
-    let o = first(o, b);
-    let o = first(o, c);
-    let o = first(o, d);
-    let o = first(o, e);
-    let o = first(o, f);
-    match o {
-        Outcome::Refused(r) => refused(r),
-        Outcome::Fine => {
-            let slot = put_map(code, at, map);
-            let slot = put(code, at, slot, a);
-            let slot = put(code, at, slot, b);
-            let slot = put(code, at, slot, c);
-            let slot = put(code, at, slot, d);
-            let slot = put(code, at, slot, e);
-            let after = put(code, at, slot, f);
-            Emitted {
-                outcome: o,
-                map,
-                slots: after.0,
-            }
-        }
-    }
+    Emitted { map, slots: slot.0 }
 }

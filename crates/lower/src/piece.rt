@@ -2,61 +2,30 @@
 ghost use Rattle.std.specs.Prelude.{◌<◌, [], ◌∷◌, ◌≡◌, pos};
 ghost use Rattle.wire.specs.Pick.{pick};
 ghost use Rattle.wire.specs.Range.{fits16};
-ghost use Rattle.frame.specs.Cell.{frame_of};
-ghost use Rattle.frame.specs.Hint.{frame_by};
+ghost use Rattle.frame.specs.Lent.{frame_in};
 ghost use Rattle.insn.specs.Rfc.{LDX, STX};
 ghost use Rattle.insn.specs.Form.{mem_code};
 ghost use Rattle.insn.specs.Layout.{insn_of};
 ghost use Rattle.lower.specs.Op.{plain, becomes, refused, ◌▸◌};
 ghost use Rattle.lower.specs.Operand.{constant, move, add, call, load, next, keep};
 ghost use Rattle.lower.specs.Instruction.{sized, mem};
-ghost use Rattle.lower.specs.Step.{step_of, word_is, reason_of, piece_of, outcome_of, first_of, one, with_constant, addr_put, addr_take, null_test, null_zero, null_rest};
+ghost use Rattle.lower.specs.Step.{step_of, word_is, ops_of, piece_of, one, with_constant, addr_put, addr_take, null_test, null_zero, null_rest};
 
-use crate::{Outcome, Reason};
-use frame::Cell;
+use crate::Reason;
+use frame::Frame;
 use insn::{
-    BPF_CALL, BPF_EXIT, BPF_JA, BPF_JEQ_IMM, BPF_MOV64_IMM, BPF_MOV64_REG, Insn, MemCode, R0, R1,
-    R2, R3, R4, R6, R10,
+    BPF_CALL, BPF_EXIT, BPF_JA, BPF_JEQ_IMM, BPF_MOV64_IMM, BPF_MOV64_REG, Insn, R0, R1, R2, R3,
+    R4, R6, R10,
 };
 use ir::Operand;
 use wire::range::{fits16, fits32};
 
-// One instruction as its word, or why it is refused.
-#[derive(Drop)]
-pub enum Encoded {
-    Is(u64),
-    Refused(Reason),
-}
-
-// One instruction, or why it is refused.
-#[derive(Drop)]
-pub enum Step {
-    Is(Insn),
-    Refused(Reason),
-}
-
-// None to two instructions, each as its word, or why they are refused.
+// None to two instructions, each as its word.
 #[derive(Clone, Copy)]
 pub enum Piece {
-    Refused(Reason),
     Nothing,
     One(u64),
     Two(u64, u64),
-}
-
-// The first refusal of what came before and of a piece.
-pub fn first(o: Outcome, p: Piece) -> Outcome
-    ensures { result ≡ first_of o (outcome_of p) }
-{
-    match o {
-        Outcome::Fine => match p {
-            Piece::Refused(r) => Outcome::Refused(r),
-            Piece::Nothing => Outcome::Fine,
-            Piece::One(_) => Outcome::Fine,
-            Piece::Two(_, _) => Outcome::Fine,
-        },
-        Outcome::Refused(_) => o,
-    }
 }
 
 // An instruction's word, from which it can be told again: of the instruction, and of its fields.
@@ -82,30 +51,18 @@ pub(crate) fn word(code: u8, dst: u8, src: u8, off: i16, imm: i32) -> u64
     })
 }
 
-// Why there is no word, where there is none.
-pub fn reason(w: Encoded) -> Reason
-    ensures { result ≡ reason_of w }
-{
-    match w {
-        Encoded::Is(_) => Reason::Helper16,
-        Encoded::Refused(r) => r,
-    }
-}
-
 // A word as a piece.
-fn single(w: Encoded) -> Piece
+#[tactic(auto, unfolding(crate::specs::Step::word_is, crate::specs::Step::words, crate::specs::Step::ops_in, crate::specs::Step::piece_of, crate::specs::Step::ops_of))]
+fn single(w: Result<u64, Reason>) -> Result<Piece, Reason>
     ensures { piece_of result ≡ word_is w }
 {
-    match w {
-        Encoded::Is(a) => Piece::One(a),
-        Encoded::Refused(r) => Piece::Refused(r),
-    }
+    Ok(Piece::One(w?))
 }
 
 pub(crate) fn plain(code: u8, dst: u8, src: u8, off: i16, imm: i32) -> Piece
     requires dst_bound { dst < 16 }
     requires src_bound { src < 16 }
-    ensures { piece_of result ≡ one code dst src off imm }
+    ensures { becomes (ops_of result) ≡ one code dst src off imm }
 {
     Piece::One(word(code, dst, src, off, imm))
 }
@@ -113,11 +70,11 @@ pub(crate) fn plain(code: u8, dst: u8, src: u8, off: i16, imm: i32) -> Piece
 // ---- constants
 
 // An instruction with a constant, which imm must hold.
-fn with_constant(code: u8, r: u8, z: i64) -> Step
+fn with_constant(code: u8, r: u8, z: i64) -> Result<Insn, Reason>
     ensures { step_of result ≡ with_constant code r z }
 {
     if fits32(z) {
-        return Step::Is(Insn {
+        return Ok(Insn {
             code,
             dst: r,
             src: 0,
@@ -125,21 +82,21 @@ fn with_constant(code: u8, r: u8, z: i64) -> Step
             imm: z as i32,
         });
     }
-    Step::Refused(Reason::Immediate(z))
+    Err(Reason::Immediate(z))
 }
 
-pub(crate) fn constant_word(code: u8, r: u8, z: i64) -> Encoded
+pub(crate) fn constant_word(code: u8, r: u8, z: i64) -> Result<u64, Reason>
     requires { r < 16 }
     ensures { word_is result ≡ with_constant code r z }
 {
     if fits32(z) {
-        return Encoded::Is(word(code, r, 0, 0, z as i32));
+        return Ok(word(code, r, 0, 0, z as i32));
     }
-    Encoded::Refused(Reason::Immediate(z))
+    Err(Reason::Immediate(z))
 }
 
 // MOV64 of a constant.
-pub(crate) fn constant(r: u8, z: i64) -> Piece
+pub(crate) fn constant(r: u8, z: i64) -> Result<Piece, Reason>
     requires { r < 16 }
     ensures { piece_of result ≡ constant r z }
 {
@@ -149,58 +106,58 @@ pub(crate) fn constant(r: u8, z: i64) -> Piece
 // ---- cells
 
 // A variable's cell, or an immediate, loaded into a register.
-pub fn load_step(variables: &[u32], hints: &[u8; 256], r: u8, o: Operand) -> Step
-    ensures { step_of result ≡ load (frame_by variables.now hints.now) r o }
+pub fn load_step(frame: Frame<'_>, r: u8, o: Operand) -> Result<Insn, Reason>
+    ensures { step_of result ≡ load (frame_in frame.entry) r o }
 {
     match o {
         Operand::Immediate(z) => with_constant(BPF_MOV64_IMM, r, z),
-        Operand::Var(v) => match frame::hint::cell_at(variables, hints, v) {
-            Cell::At(offset) => Step::Is(Insn {
+        Operand::Var(v) => match frame.cell(v) {
+            Some(offset) => Ok(Insn {
                 code: 0x79,
                 dst: r,
                 src: R10,
                 off: offset,
                 imm: 0,
             }),
-            Cell::Missing => Step::Refused(Reason::NoCell(v)),
+            None => Err(Reason::NoCell(v)),
         },
     }
 }
 
-pub(crate) fn load_word(variables: &[u32], hints: &[u8; 256], r: u8, o: Operand) -> Encoded
+pub(crate) fn load_word(frame: Frame<'_>, r: u8, o: Operand) -> Result<u64, Reason>
     requires { r < 16 }
-    ensures { word_is result ≡ load (frame_by variables.now hints.now) r o }
+    ensures { word_is result ≡ load (frame_in frame.entry) r o }
 {
     match o {
         Operand::Immediate(z) => constant_word(BPF_MOV64_IMM, r, z),
-        Operand::Var(v) => match frame::hint::cell_at(variables, hints, v) {
-            Cell::At(offset) => Encoded::Is(word(0x79, r, R10, offset, 0)),
-            Cell::Missing => Encoded::Refused(Reason::NoCell(v)),
+        Operand::Var(v) => match frame.cell(v) {
+            Some(offset) => Ok(word(0x79, r, R10, offset, 0)),
+            None => Err(Reason::NoCell(v)),
         },
     }
 }
 
-pub(crate) fn load(variables: &[u32], hints: &[u8; 256], r: u8, o: Operand) -> Piece
+pub(crate) fn load(frame: Frame<'_>, r: u8, o: Operand) -> Result<Piece, Reason>
     requires { r < 16 }
-    ensures { piece_of result ≡ load (frame_by variables.now hints.now) r o }
+    ensures { piece_of result ≡ load (frame_in frame.entry) r o }
 {
-    single(load_word(variables, hints, r, o))
+    single(load_word(frame, r, o))
 }
 
 // R0 stored to a variable's cell.
-pub fn keep_word(variables: &[u32], hints: &[u8; 256], v: u32) -> Encoded
-    ensures { word_is result ≡ keep (frame_by variables.now hints.now) v }
+pub fn keep_word(frame: Frame<'_>, v: u32) -> Result<u64, Reason>
+    ensures { word_is result ≡ keep (frame_in frame.entry) v }
 {
-    match frame::hint::cell_at(variables, hints, v) {
-        Cell::At(offset) => Encoded::Is(word(0x7b, R10, R0, offset, 0)),
-        Cell::Missing => Encoded::Refused(Reason::NoCell(v)),
+    match frame.cell(v) {
+        Some(offset) => Ok(word(0x7b, R10, R0, offset, 0)),
+        None => Err(Reason::NoCell(v)),
     }
 }
 
-pub fn keep(variables: &[u32], hints: &[u8; 256], v: u32) -> Piece
-    ensures { piece_of result ≡ keep (frame_by variables.now hints.now) v }
+pub fn keep(frame: Frame<'_>, v: u32) -> Result<Piece, Reason>
+    ensures { piece_of result ≡ keep (frame_in frame.entry) v }
 {
-    single(keep_word(variables, hints, v))
+    single(keep_word(frame, v))
 }
 
 // MOV of R10 to a register, and ADD of a cell to a register.
@@ -211,6 +168,7 @@ fn from_frame(r: u8) -> u64
     word(BPF_MOV64_REG, r, R10, 0, 0)
 }
 
+#[tactic(auto, unfolding(crate::specs::Operand::add, crate::specs::Op::insn, insn::specs::Form::opcode_of, insn::specs::Rfc::operation_of))]
 fn add_cell(r: u8, cell: i16) -> u64
     requires { r < 16 }
     ensures { becomes (plain (insn_of result) ∷ []) ≡ add r cell }
@@ -219,38 +177,35 @@ fn add_cell(r: u8, cell: i16) -> u64
 }
 
 // An address in two pieces: an immediate stored to scratch j, and the address of a variable's cell or of scratch j.
-pub(crate) fn put_scratch(variables: &[u32], j: u8, r: u8, o: Operand) -> Piece
+pub(crate) fn put_scratch(frame: Frame<'_>, j: u8, r: u8, o: Operand) -> Result<Piece, Reason>
     requires { r < 16 }
-    ensures { piece_of result ≡ addr_put (frame_of variables.now) j r o }
+    ensures { piece_of result ≡ addr_put (frame_in frame.entry) j r o }
 {
     match o {
-        Operand::Var(_) => Piece::Nothing,
-        Operand::Immediate(z) => match constant_word(BPF_MOV64_IMM, r, z) {
-            Encoded::Refused(q) => Piece::Refused(q),
-            Encoded::Is(a) => {
-                let put = word(0x7b, R10, r, frame::scratch(variables, j), 0);
-                Piece::Two(a, put)
-            }
-        },
-    }
-}
-
-pub(crate) fn take_addr(variables: &[u32], hints: &[u8; 256], j: u8, r: u8, o: Operand) -> Piece
-    requires { r < 16 }
-    ensures { piece_of result ≡ addr_take (frame_by variables.now hints.now) j r o }
-{
-    match o {
-        Operand::Var(v) => match frame::hint::cell_at(variables, hints, v) {
-            Cell::At(cell) => Piece::Two(from_frame(r), add_cell(r, cell)),
-            Cell::Missing => Piece::Refused(Reason::NoCell(v)),
-        },
-        Operand::Immediate(_) => {
-            Piece::Two(from_frame(r), add_cell(r, frame::scratch(variables, j)))
+        Operand::Var(_) => Ok(Piece::Nothing),
+        Operand::Immediate(z) => {
+            let a = constant_word(BPF_MOV64_IMM, r, z)?;
+            let put = word(0x7b, R10, r, frame.scratch(j), 0);
+            Ok(Piece::Two(a, put))
         }
     }
 }
 
+pub(crate) fn take_addr(frame: Frame<'_>, j: u8, r: u8, o: Operand) -> Result<Piece, Reason>
+    requires { r < 16 }
+    ensures { piece_of result ≡ addr_take (frame_in frame.entry) j r o }
+{
+    match o {
+        Operand::Var(v) => match frame.cell(v) {
+            Some(cell) => Ok(Piece::Two(from_frame(r), add_cell(r, cell))),
+            None => Err(Reason::NoCell(v)),
+        },
+        Operand::Immediate(_) => { Ok(Piece::Two(from_frame(r), add_cell(r, frame.scratch(j)))) }
+    }
+}
+
 // The ring's position after an operand whose address is taken.
+#[tactic(auto, unfolding(crate::specs::Operand::next))]
 pub fn next(j: u8, o: Operand) -> u8
     ensures { result ≡ next j o }
 {
@@ -263,33 +218,33 @@ pub fn next(j: u8, o: Operand) -> u8
 // ---- memory
 
 // Bytes of the context, whose address is in R6, loaded into R0.
-pub fn load_context(offset: i32, size: u8) -> Encoded
+pub fn load_context(offset: i32, size: u8) -> Result<u64, Reason>
     ensures { word_is result ≡ sized (mem_code LDX size) (Reason.LoadSize size) (λ code. pick (fits16 offset) (mem code 0 6 offset) (refused (Reason.Offset offset))) }
 {
     match insn::ldx_mem(size) {
-        MemCode::Code(code) => {
+        Some(code) => {
             if fits16(offset as i64) {
-                return Encoded::Is(word(code, R0, R6, offset as i16, 0));
+                return Ok(word(code, R0, R6, offset as i16, 0));
             }
-            Encoded::Refused(Reason::Offset(offset))
+            Err(Reason::Offset(offset))
         }
-        MemCode::Unsupported => Encoded::Refused(Reason::LoadSize(size)),
+        None => Err(Reason::LoadSize(size)),
     }
 }
 
 // R2 stored where R1 points.
-pub fn store(size: u8) -> Encoded
+pub fn store(size: u8) -> Result<u64, Reason>
     ensures { word_is result ≡ sized (mem_code STX size) (Reason.StoreSize size) (λ code. mem code 1 2 (pos 0)) }
 {
     match insn::stx_mem(size) {
-        MemCode::Code(code) => Encoded::Is(word(code, R1, R2, 0, 0)),
-        MemCode::Unsupported => Encoded::Refused(Reason::StoreSize(size)),
+        Some(code) => Ok(word(code, R1, R2, 0, 0)),
+        None => Err(Reason::StoreSize(size)),
     }
 }
 
 // The context's address plus an offset, in R3.
 pub fn context_address(offset: i32) -> Piece
-    ensures { piece_of result ≡ (move 3 6 ▸ add 3 offset) }
+    ensures { becomes (ops_of result) ≡ (move 3 6 ▸ add 3 offset) }
 {
     let from = word(BPF_MOV64_REG, R3, R6, 0, 0);
     let plus = word(0x07, R3, 0, 0, offset);
@@ -298,7 +253,7 @@ pub fn context_address(offset: i32) -> Piece
 
 // The update of a map, with no flags.
 pub fn call_update() -> Piece
-    ensures { piece_of result ≡ (constant 4 (pos 0) ▸ call 2) }
+    ensures { becomes (ops_of result) ≡ (constant 4 (pos 0) ▸ call 2) }
 {
     let flags = word(BPF_MOV64_IMM, R4, 0, 0, 0);
     let update = word(BPF_CALL, 0, 0, 0, 2);
@@ -321,7 +276,7 @@ fn set_r0(value: i32) -> u64
 
 // R0 as a branch condition, or EXIT where R0 is 0: the test, what is done where R0 is 0, and the rest.
 pub fn null_test(condition: bool) -> Piece
-    ensures { piece_of result ≡ null_test condition }
+    ensures { becomes (ops_of result) ≡ null_test condition }
 {
     if condition {
         return Piece::Two(jump_by(BPF_JEQ_IMM, 2), set_r0(1));
@@ -330,7 +285,7 @@ pub fn null_test(condition: bool) -> Piece
 }
 
 pub fn null_zero(condition: bool) -> Piece
-    ensures { piece_of result ≡ null_zero condition }
+    ensures { becomes (ops_of result) ≡ null_zero condition }
 {
     if condition {
         return Piece::Two(jump_by(BPF_JA, 1), set_r0(0));
@@ -339,7 +294,7 @@ pub fn null_zero(condition: bool) -> Piece
 }
 
 pub fn null_rest(condition: bool) -> Piece
-    ensures { piece_of result ≡ null_rest condition }
+    ensures { becomes (ops_of result) ≡ null_rest condition }
 {
     if condition {
         return Piece::Nothing;

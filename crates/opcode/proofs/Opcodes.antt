@@ -1,38 +1,30 @@
 -- The table of opcodes and its reading back undo each other; what the tests of the fields come to.
 use mathlib.Core.Path.{◌≡◌, refl, sym, ap, ◌∙◌}
 use mathlib.Core.Bool.{Bool, true, false, true≢false}
-use Prim.Native.Nat.{ℕ, zero, suc, ◌-◌, ◌^◌, ◌<◌, ◌≤◌}
+use Prim.Native.Nat.{ℕ, zero, suc, ◌^◌, ◌<◌, ◌≤◌}
 use native.Mathlib.Omega.{arith}
 use borrow.Author.Tests.{eq-eqb, ne_eqb, eqb-true, eqb-false, ltb-true, lt-ltb, le-ltb, le-leb}
 use lib.Dec.{eqb, ltb}
-use lib.IntN.{ℤ, pos, negsuc, nat_abs}
+use lib.IntN.{ℤ, pos, negsuc}
 use lib.ListN.{get_or, get_or-eq_default}
-use lib.Signed.{lt_z, le_z}
+use lib.Signed.{le_z}
 use mir.Syntax.{w32}
-use mir.Val.{SFits, of_z, to_z}
+use mir.Val.{SFits, to_z}
 use mir.ValLaws.{to_z_pos}
-use Rattle.wire.specs.Pick.{pick, both, is_zero}
+use Rattle.wire.specs.Pick.{pick, both}
 use Rattle.ir.specs.declared.BinaryOp.{BinaryOp}
 use Rattle.ir.specs.declared.BinaryOp.TheVariants.{Add, Sub, Mul, Div, Mod, Shl, Shr}
 use Rattle.ir.specs.declared.Opcode.{Opcode}
 use Rattle.ir.specs.declared.Opcode.TheVariants as C
-use Rattle.opcode.specs.Opcode.{operations, small_of, row, fields_of, map_of, opcodes, opcode_in, map_ok, same_number, same_fields, opcode_of, is_opcode}
+use Rattle.opcode.specs.Opcode.{operations, small_of, row, fields_of, map_of, opcodes, opcode_in, map_ok, same_number, same_fields, opcode_of}
 use Rattle.opcode.specs.declared.Fields.{Fields}
-use Rattle.opcode.specs.declared.ReadOpcode.TheVariants.{Is, Broken}
+use Rattle.std.specs.Prelude.{None, Some}
 
 -- ---- tests
 
 pub both_true : (x y : Bool) → both x y ≡ true → (x ≡ true) × (y ≡ true)
 both_true true y e = (refl, e)
 both_true false y e = let z : ◌≡◌ {A = ℕ} 0 1 = cc in absurd (omega arith)
-
-pub both_yes : (x : Bool) → both x true ≡ x
-both_yes true = refl
-both_yes false = refl
-
-pub both_group : (x y z : Bool) → both (both x y) z ≡ both x (both y z)
-both_group true y z = refl
-both_group false y z = refl
 
 pub itself : (n : ℕ) → eqb n n ≡ true
 itself n = eq-eqb n n refl
@@ -41,11 +33,6 @@ pub same_itself : (z : ℤ) → same_number z z ≡ true
 unfolding same_number
 same_itself (pos n) = itself n
 same_itself (negsuc n) = itself n
-
-pub same_zero : (z : ℤ) → same_number z (pos 0) ≡ is_zero z
-unfolding same_number is_zero
-same_zero (pos n) = refl
-same_zero (negsuc n) = refl
 
 same_number_lem : (y z : ℤ) → same_number y z ≡ true → y ≡ z
 unfolding same_number
@@ -69,27 +56,7 @@ same_fields_lem f g e =
     let offset = both_true _ _ small.1 in
     sym (made g (eqb-true _ _ code.0) (eqb-true _ _ small.0) (same_number_lem _ _ offset.0) (eqb-true _ _ offset.1))
 
--- a signed number is zero as its word is
-pub zero_word : (z : ℤ) → SFits w32 z → eqb (of_z w32 z) 0 ≡ is_zero z
-unfolding is_zero
-zero_word (pos n) h = refl
-zero_word (negsuc n) h =
-    let half : n < 2 ^ 31 = h.sfits in
-    ne_eqb (2 ^ 32 - suc n) 0 (λ (e : 2 ^ 32 - suc n ≡ 0). omega arith)
-
 -- ---- operations
-
--- a small that is none of 1 to 6 says Add, or nothing
-pub else_add : (n : ℕ) → (n ≡ 1 → ⊥) → (n ≡ 2 → ⊥) → (n ≡ 3 → ⊥) → (n ≡ 4 → ⊥) → (n ≡ 5 → ⊥) → (n ≡ 6 → ⊥) → get_or operations n Add ≡ Add
-unfolding operations
-else_add zero a b c d e f = refl
-else_add (suc zero) a b c d e f = absurd (a refl)
-else_add (suc (suc zero)) a b c d e f = absurd (b refl)
-else_add (suc (suc (suc zero))) a b c d e f = absurd (c refl)
-else_add (suc (suc (suc (suc zero)))) a b c d e f = absurd (d refl)
-else_add (suc (suc (suc (suc (suc zero))))) a b c d e f = absurd (e refl)
-else_add (suc (suc (suc (suc (suc (suc zero)))))) a b c d e f = absurd (f refl)
-else_add (suc (suc (suc (suc (suc (suc (suc n))))))) a b c d e f = refl
 
 -- a small is that of its operation again where it is below 7
 pub small_again : (n : ℕ) → eqb n (small_of (get_or operations n Add)) ≡ ltb n 7
@@ -111,24 +78,6 @@ pub again : (z : ℤ) → SFits w32 z → le_z (pos 0) z ≡ same_number z (to_z
 unfolding same_number map_of
 again (pos m) g = rw (to_z_pos w32 m g.sfits, itself m) (le-leb 0 m (omega arith))
 again (negsuc m) g = refl
-
-below_zero : (z : ℤ) → lt_z z (pos 0) ≡ true → 0 ≡ map_of z
-unfolding map_of
-below_zero (pos n) t = absurd (omega (arith, ltb-true n 0 t))
-below_zero (negsuc n) t = refl
-
-from_zero : (z : ℤ) → lt_z z (pos 0) ≡ false → nat_abs z ≡ map_of z
-unfolding map_of
-from_zero (pos n) t = refl
-from_zero (negsuc n) t = absurd (true≢false t)
-
--- which the code has as the equal y
-module _ (y z : ℤ) (e : y ≡ z) where
-  pub negative : lt_z y (pos 0) ≡ true → 0 ≡ map_of z
-  negative t = below_zero z (rw e at t)
-
-  pub not_negative : lt_z y (pos 0) ≡ false → nat_abs y ≡ map_of z
-  not_negative t = rw e (from_zero z (rw e at t))
 
 -- ---- by the code
 
@@ -214,36 +163,27 @@ module _ {few more : ℕ} (h : few ≤ more) where
   map_more (C.RingBufSubmit map) e = below map e
 
 -- from its fields an opcode is read
-pub opcode_written : (maps : ℕ) (o : Opcode) → maps ≤ 2 ^ 31 → map_ok maps o ≡ true → opcode_of (fields_of o) maps ≡ Is o
+pub opcode_written : (maps : ℕ) (o : Opcode) → maps ≤ 2 ^ 31 → map_ok maps o ≡ true → opcode_of (fields_of o) maps ≡ Some o
 unfolding opcode_of
 opcode_written maps o h e = rw (opcode_back o (map_more h o e), same_fields_itself (fields_of o), e)
 
 -- ---- what is read
 
-pub ok_picked : (t : Bool) (o : Opcode) → is_opcode (pick t (Is o) Broken) ≡ t
-unfolding is_opcode
-ok_picked true o = refl
-ok_picked false o = refl
-
 module _ (f : Fields) (maps : ℕ) where
-  pub read_as : {t : Bool} → t ≡ is_opcode (opcode_of f maps) → pick t (Is (opcode_in f)) Broken ≡ opcode_of f maps
-  unfolding opcode_of
-  read_as e = rw (e, ok_picked)
-
   -- an opcode that was read is that of the fields, has those fields, and a map that there is
   pub record Has (o : Opcode) : Type 0 where
     pub is : opcode_in f ≡ o
     pub fields : fields_of o ≡ f
     pub map : map_ok maps o ≡ true
 
-  pub opcode_has : (o : Opcode) → opcode_of f maps ≡ Is o → Has o
+  pub opcode_has : (o : Opcode) → opcode_of f maps ≡ Some o → Has o
   unfolding opcode_of
   opcode_has o e = go (same_fields f (fields_of (opcode_in f))) (map_ok maps (opcode_in f)) refl refl e
     where
-      go : (t u : Bool) → same_fields f (fields_of (opcode_in f)) ≡ t → map_ok maps (opcode_in f) ≡ u → pick (both t u) (Is (opcode_in f)) Broken ≡ Is o → Has o
+      go : (t u : Bool) → same_fields f (fields_of (opcode_in f)) ≡ t → map_ok maps (opcode_in f) ≡ u → pick (both t u) (Some (opcode_in f)) None ≡ Some o → Has o
       go true true p q e = let i : opcode_in f ≡ o = cc in record { is = i; fields = rw i at (same_fields_lem f (fields_of (opcode_in f)) p); map = rw i at q }
       go true false p q e = let z : ◌≡◌ {A = ℕ} 0 1 = cc in absurd (omega arith)
       go false u p q e = let z : ◌≡◌ {A = ℕ} 0 1 = cc in absurd (omega arith)
 
-  pub opcode_read : (o : Opcode) → opcode_of f maps ≡ Is o → opcode_in f ≡ o
+  pub opcode_read : (o : Opcode) → opcode_of f maps ≡ Some o → opcode_in f ≡ o
   opcode_read o e = (opcode_has o e).is

@@ -1,5 +1,5 @@
 -- Opcodes and their use of small, offset and number; what an opcode does not use is zero.
-use Rattle.std.specs.Prelude.{ℕ, Bool, true, false, List, [], ◌∷◌, eqb, ltb, ℤ, pos, negsuc, get_or}
+use Rattle.std.specs.Prelude.{ℕ, Bool, true, false, List, [], ◌∷◌, eqb, ltb, ℤ, pos, negsuc, get_or, None, Option, Some}
 use Rattle.std.specs.Int.{w32}
 use Rattle.std.proofs.Common.{to_z}
 use Rattle.wire.specs.Pick.{pick, both}
@@ -8,8 +8,6 @@ use Rattle.ir.specs.declared.BinaryOp.TheVariants.{Add, Sub, Mul, Div, Mod, Shl,
 use Rattle.ir.specs.declared.Opcode.{Opcode}
 use Rattle.ir.specs.declared.Opcode.TheVariants as C
 use Rattle.opcode.specs.declared.Fields.{Fields}
-use Rattle.opcode.specs.declared.ReadOpcode.{ReadOpcode}
-use Rattle.opcode.specs.declared.ReadOpcode.TheVariants.{Is, Broken}
 
 -- the operations of Binary, by small
 unfoldable pub operations : List BinaryOp
@@ -100,9 +98,9 @@ unfoldable pub same_fields : Fields → Fields → Bool
 same_fields f g = both (eqb f.code g.code) (both (eqb f.small g.small) (both (same_number f.offset g.offset) (eqb f.number g.number)))
 
 -- the fields are an opcode's in a unit of so many maps where they are its fields again, and its map, if it has one, is one of those
-unfoldable pub opcode_of : Fields → ℕ → ReadOpcode
-opcode_of f maps = pick (both (same_fields f (fields_of (opcode_in f))) (map_ok maps (opcode_in f))) (Is (opcode_in f)) Broken
+unfoldable pub opcode_of : Fields → ℕ → Option Opcode
+opcode_of f maps = pick (both (same_fields f (fields_of (opcode_in f))) (map_ok maps (opcode_in f))) (Some (opcode_in f)) None
 
-unfoldable pub is_opcode : ReadOpcode → Bool
-is_opcode (Is o) = true
-is_opcode Broken = false
+unfoldable pub is_opcode : Option Opcode → Bool
+is_opcode (Some o) = true
+is_opcode None = false

@@ -1,4 +1,6 @@
 // What an instruction asks of its operands, by the fields of its opcode.
+#![tactic(auto, unfolding(crate::specs::Asks::helper_asks, crate::specs::Asks::asks_of, crate::specs::Asks::enough, crate::specs::Opcode::opcode_in))]
+
 ghost use Rattle.std.specs.Prelude.{◌≡◌};
 ghost use Rattle.opcode.specs.Asks.{helper_asks, asks_of, enough};
 ghost use Rattle.opcode.specs.Opcode.{opcode_in};
@@ -17,12 +19,8 @@ fn helper_asks(id: u32) -> Asks
     ensures { result ≡ helper_asks id }
 {
     match id {
-        5 => Asks::Exactly(0),
-        14 => Asks::Exactly(0),
-        15 => Asks::Exactly(0),
-        35 => Asks::Exactly(0),
-        114 => Asks::Exactly(3),
-        115 => Asks::Exactly(3),
+        5 | 14 | 15 | 35 => Asks::Exactly(0),
+        114 | 115 => Asks::Exactly(3),
         _ => Asks::Nothing,
     }
 }
@@ -31,8 +29,7 @@ fn helper_asks(id: u32) -> Asks
 pub fn asks_of(f: Fields) -> Asks
     ensures { result ≡ asks_of (opcode_in f) }
 {
-    let code = f.code;
-    match code {
+    match f.code {
         1 => helper_asks(f.number),
         2 => Asks::First,
         3 => Asks::Exactly(2),

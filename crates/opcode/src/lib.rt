@@ -6,7 +6,6 @@ pub mod asks;
 ghost use Rattle.std.specs.Prelude.{◌≡◌, get_or};
 ghost use Rattle.ir.specs.declared.BinaryOp.TheVariants.{Add};
 ghost use Rattle.opcode.specs.Opcode.{operations, small_of, row, fields_of, map_of, opcode_in, map_ok, opcode_of, is_opcode};
-ghost use Rattle.wire.specs.Pick.{both, is_zero};
 
 use ir::{BinaryOp, Opcode};
 
@@ -18,40 +17,34 @@ pub struct Fields {
     pub number: u32,
 }
 
-#[derive(Drop)]
-pub enum ReadOpcode {
-    Is(Opcode),
-    Broken,
-}
+// The operations of Binary, by small.
+const OPERATIONS: [BinaryOp; 7] = [
+    BinaryOp::Add,
+    BinaryOp::Sub,
+    BinaryOp::Mul,
+    BinaryOp::Div,
+    BinaryOp::Mod,
+    BinaryOp::Shl,
+    BinaryOp::Shr,
+];
 
 // The operation that Binary's small says.
+#[tactic(auto, unfolding(crate::specs::Opcode::operations))]
 pub fn operation(small: u8) -> BinaryOp
     ensures { result ≡ get_or operations small Add }
 {
-    match small {
-        1 => BinaryOp::Sub,
-        2 => BinaryOp::Mul,
-        3 => BinaryOp::Div,
-        4 => BinaryOp::Mod,
-        5 => BinaryOp::Shl,
-        6 => BinaryOp::Shr,
-        _ => BinaryOp::Add,
-    }
+    OPERATIONS
+        .get(small as usize)
+        .copied()
+        .unwrap_or(BinaryOp::Add)
 }
 
 // Binary's small.
+#[tactic(auto, unfolding(crate::specs::Opcode::small_of))]
 pub fn small_of(op: BinaryOp) -> u8
     ensures { result ≡ small_of op }
 {
-    match op {
-        BinaryOp::Add => 0,
-        BinaryOp::Sub => 1,
-        BinaryOp::Mul => 2,
-        BinaryOp::Div => 3,
-        BinaryOp::Mod => 4,
-        BinaryOp::Shl => 5,
-        BinaryOp::Shr => 6,
-    }
+    op as u8
 }
 
 fn row(code: u8, small: u8, offset: i32, number: u32) -> Fields
@@ -66,6 +59,7 @@ fn row(code: u8, small: u8, offset: i32, number: u32) -> Fields
 }
 
 // An opcode's number, and its small, offset and number.
+#[tactic(auto, unfolding(crate::specs::Opcode::fields_of))]
 pub fn fields_of(o: Opcode) -> Fields
     ensures { result ≡ fields_of o }
 {
@@ -86,126 +80,99 @@ pub fn fields_of(o: Opcode) -> Fields
 }
 
 // The map in offset; a negative number is none.
+#[tactic(auto, unfolding(crate::specs::Opcode::map_of))]
 pub fn map_of(z: i32) -> u32
     ensures { result ≡ map_of z }
 {
-    if z < 0 {
-        return 0;
-    }
-    z as u32
+    u32::try_from(z).unwrap_or(0)
 }
 
 // The opcode of fields that are known to be one's.
+#[tactic(auto, unfolding(crate::specs::Opcode::opcode_in))]
 pub fn opcode_in(f: Fields) -> Opcode
     ensures { result ≡ opcode_in f }
 {
-    let code = f.code;
-    let small = f.small;
-    let offset = f.offset;
-    let number = f.number;
-    match code {
-        1 => Opcode::HelperCall { id: number },
+    match f.code {
+        1 => Opcode::HelperCall { id: f.number },
         2 => Opcode::LoadKey,
-        3 => Opcode::Store { size: small },
+        3 => Opcode::Store { size: f.small },
         4 => Opcode::LoadCtx {
-            offset: offset,
-            size: small,
+            offset: f.offset,
+            size: f.small,
         },
         5 => Opcode::LoadPacket {
-            offset: offset,
-            size: small,
+            offset: f.offset,
+            size: f.small,
         },
         6 => Opcode::CopyCtxToMem {
-            offset: offset,
-            size: number,
+            offset: f.offset,
+            size: f.number,
         },
         7 => Opcode::NullCheck,
         8 => Opcode::Binary {
-            op: operation(small),
+            op: operation(f.small),
         },
-        9 => Opcode::CallMap { map: number },
-        10 => Opcode::UpdateMap { map: number },
+        9 => Opcode::CallMap { map: f.number },
+        10 => Opcode::UpdateMap { map: f.number },
         11 => Opcode::RingBufReserve {
-            map: map_of(offset),
-            size: number,
+            map: map_of(f.offset),
+            size: f.number,
         },
-        12 => Opcode::RingBufSubmit { map: number },
+        12 => Opcode::RingBufSubmit { map: f.number },
         _ => Opcode::LoadKey,
     }
 }
 
-fn both(x: bool, y: bool) -> bool
-    ensures { result ≡ both x y }
-{
-    if x {
-        return y;
-    }
-    false
-}
-
-fn is_zero(z: i32) -> bool
-    ensures { result ≡ is_zero z }
-{
-    z == 0
-}
-
 // Whether the fields are an opcode's, in a unit of so many maps: it uses them in their bounds, and what it does not use is zero.
+#[tactic(auto, using(crate::proofs::Opcodes::small_again, crate::proofs::Opcodes::again), unfolding(crate::specs::Opcode::opcode_of, crate::specs::Opcode::same_fields, crate::specs::Opcode::same_number, crate::specs::Opcode::fields_of, crate::specs::Opcode::opcode_in, crate::specs::Opcode::map_ok, crate::specs::Opcode::is_opcode))]
 pub fn opcode_ok(f: Fields, maps: u16) -> bool
     ensures { result ≡ is_opcode (opcode_of f maps) }
 {
-    let code = f.code;
-    let small = f.small;
-    let offset = f.offset;
-    let number = f.number;
-    let no_small = small == 0;
-    let no_offset = is_zero(offset);
-    let no_number = number == 0;
+    let no_small = f.small == 0;
+    let no_offset = f.offset == 0;
+    let no_number = f.number == 0;
     // The fields that alone may be other than zero.
-    let number_only = both(no_small, no_offset);
-    let small_only = both(no_offset, no_number);
-    match code {
+    let number_only = no_small && no_offset;
+    let small_only = no_offset && no_number;
+    let maps = u32::from(maps);
+    match f.code {
         1 => number_only,
-        2 => both(no_small, small_only),
+        2 => no_small && small_only,
         3 => small_only,
         4 => no_number,
         5 => no_number,
         6 => no_small,
-        7 => both(no_small, small_only),
-        8 => both(small < 7, small_only),
-        9 => both(number_only, number < maps as u32),
-        10 => both(number_only, number < maps as u32),
-        11 => both(no_small, both(0 <= offset, map_of(offset) < maps as u32)),
-        12 => both(number_only, number < maps as u32),
+        7 => no_small && small_only,
+        8 => f.small < 7 && small_only,
+        9 => number_only && f.number < maps,
+        10 => number_only && f.number < maps,
+        11 => no_small && 0 <= f.offset && map_of(f.offset) < maps,
+        12 => number_only && f.number < maps,
         _ => false,
     }
 }
 
 // The opcode in a unit of so many maps.
-pub fn opcode_of(f: Fields, maps: u16) -> ReadOpcode
+#[tactic(auto, unfolding(crate::specs::Opcode::opcode_of, crate::specs::Opcode::is_opcode))]
+pub fn opcode_of(f: Fields, maps: u16) -> Option<Opcode>
     ensures { result ≡ opcode_of f maps }
 {
     if opcode_ok(f, maps) {
-        return ReadOpcode::Is(opcode_in(f));
+        return Some(opcode_in(f));
     }
-    ReadOpcode::Broken
+    None
 }
 
 // Whether the opcode's map, if it has one, is one of so many.
+#[tactic(auto, unfolding(crate::specs::Opcode::map_ok))]
 pub fn map_ok(o: Opcode, maps: u16) -> bool
     ensures { result ≡ map_ok maps o }
 {
     match o {
-        Opcode::HelperCall { id: _ } => true,
-        Opcode::LoadKey => true,
-        Opcode::Store { size: _ } => true,
-        Opcode::LoadCtx { offset: _, size: _ } => true,
-        Opcode::LoadPacket { offset: _, size: _ } => true,
-        Opcode::CopyCtxToMem { offset: _, size: _ } => true,
-        Opcode::NullCheck => true,
-        Opcode::Binary { op: _ } => true,
-        Opcode::CallMap { map } => map < (maps as u32),
-        Opcode::UpdateMap { map } => map < (maps as u32),
-        Opcode::RingBufReserve { map, size: _ } => map < (maps as u32),
-        Opcode::RingBufSubmit { map } => map < (maps as u32),
+        Opcode::CallMap { map }
+        | Opcode::UpdateMap { map }
+        | Opcode::RingBufReserve { map, .. }
+        | Opcode::RingBufSubmit { map } => map < u32::from(maps),
+        _ => true,
     }
 }

@@ -13,28 +13,26 @@ use Rattle.wire.specs.Pick.{pick}
 use Rattle.record.specs.Frame.{length_at, whole_at, next_at}
 use Rattle.record.specs.Record.{read_record}
 use Rattle.recordcheck.specs.Checked.{checked_of}
-use Rattle.recordcheck.specs.declared.Checked.TheVariants as Ch
 use Rattle.record.specs.declared.Record.TheVariants as R
 use Rattle.record.specs.declared.Due.TheVariants as Du
 use Rattle.record.specs.declared.Fault.{Fault}
 use Rattle.record.specs.declared.Fault.TheVariants.{Broken}
-use Rattle.record.specs.declared.Read.{Read}
-use Rattle.record.specs.declared.Read.TheVariants as Re
 use Rattle.opening.specs.Names.{same_name, among, part, Names, named, refused, on_map, names_at, Distinct}
 use Rattle.opening.specs.Places.{map_of, map_at, on_map_at, map_from}
 use Rattle.opening.specs.Inner.{Lies, taken_from, one_more}
 use Rattle.opening.specs.declared.MapAt.{MapAt}
-use Rattle.opening.specs.declared.MapAt.TheVariants as M
-use Rattle.opening.specs.declared.names.Maps.TheVariants as Ms
 use Rattle.record.proofs.RecordLaws.{record_taken}
 use Rattle.opening.proofs.Choice.{pick_ind}
 use Rattle.opening.proofs.Same.{among_more, among_at}
+use Rattle.record.specs.declared.Record.{Record}
+use Rattle.std.specs.Prelude.{Err, Ok, Result}
+use Rattle.wire.proofs.Pairs.{ok_parts}
 
 -- ---- one map's record
 
 -- what a map's record at a byte says: its name is its payload, and lies in b
 pub record IsMap (b : List ℕ) (at start len next : ℕ) : Type 0 where
-  pub read : read_record b at Du.Map 0 ≡ Re.Record (R.Map start len) next
+  pub read : read_record b at Du.Map 0 ≡ Ok (R.Map start len, next)
   pub begins : start ≡ at + 4
   pub ends : next ≡ start + len
   pub within : next ≤ length b
@@ -44,20 +42,18 @@ pub record IsMap (b : List ℕ) (at start len next : ℕ) : Type 0 where
   pub after : next_at b at ≡ next
 
 module _ (b : List ℕ) (at : ℕ) where
-  is_map_by : (x : Read) → read_record b at Du.Map 0 ≡ x → (start len next : ℕ) → map_of at x ≡ M.Is start len next → read_record b at Du.Map 0 ≡ Re.Record (R.Map start len) next
+  is_map_by : (x : Result (Record × ℕ) Fault) → read_record b at Du.Map 0 ≡ x → (start len next : ℕ) → map_of at x ≡ Ok (record { start = start; len = len; next = next }) → read_record b at Du.Map 0 ≡ Ok (R.Map start len, next)
   unfolding map_of
-  is_map_by (Re.Record (R.Map s l) n) h start len next e =
-      let p : s ≡ start = cc in
-      let q : l ≡ len = cc in
-      let r : n ≡ next = cc in
-      cc
-  is_map_by (Re.Record (R.Head x) n) h start len next e = let z : ◌≡◌ {A = ℕ} 0 1 = cc in absurd (omega arith)
-  is_map_by (Re.Record (R.Block x) n) h start len next e = let z : ◌≡◌ {A = ℕ} 0 1 = cc in absurd (omega arith)
-  is_map_by (Re.Record (R.Instruction x) n) h start len next e = let z : ◌≡◌ {A = ℕ} 0 1 = cc in absurd (omega arith)
-  is_map_by (Re.Record (R.Terminator x) n) h start len next e = let z : ◌≡◌ {A = ℕ} 0 1 = cc in absurd (omega arith)
-  is_map_by (Re.Refused f) h start len next e = let z : ◌≡◌ {A = ℕ} 0 1 = cc in absurd (omega arith)
+  is_map_by (Ok (R.Map s l, n)) h start len next e =
+      let w : ◌≡◌ {A = MapAt} (record { start = s; len = l; next = n }) (record { start = start; len = len; next = next }) = cc in
+      h ∙ ap (λ (m : MapAt). Ok (R.Map m.start m.len, m.next)) w
+  is_map_by (Ok (R.Head x, n)) h start len next e = let z : ◌≡◌ {A = ℕ} 0 1 = cc in absurd (omega arith)
+  is_map_by (Ok (R.Block x, n)) h start len next e = let z : ◌≡◌ {A = ℕ} 0 1 = cc in absurd (omega arith)
+  is_map_by (Ok (R.Instruction x, n)) h start len next e = let z : ◌≡◌ {A = ℕ} 0 1 = cc in absurd (omega arith)
+  is_map_by (Ok (R.Terminator x, n)) h start len next e = let z : ◌≡◌ {A = ℕ} 0 1 = cc in absurd (omega arith)
+  is_map_by (Err f) h start len next e = let z : ◌≡◌ {A = ℕ} 0 1 = cc in absurd (omega arith)
 
-  pub is_map : (start len next : ℕ) → map_at b at ≡ M.Is start len next → IsMap b at start len next
+  pub is_map : (start len next : ℕ) → map_at b at ≡ Ok (record { start = start; len = len; next = next }) → IsMap b at start len next
   unfolding map_at whole_at next_at
   is_map start len next e =
       let r = is_map_by (read_record b at Du.Map 0) refl start len next e in
@@ -76,55 +72,55 @@ module _ (b : List ℕ) (at : ℕ) where
 
   -- a record that was checked as a map's
   pub record MapChecked (next : ℕ) : Type 0 where
-    pub map : map_at b at ≡ M.Is (at + 4) (next - (at + 4)) next
+    pub map : map_at b at ≡ Ok (record { start = at + 4; len = next - (at + 4); next = next })
     pub later : at + 4 ≤ next
     pub within : next ≤ length b
 
-  checked_by_lem : (x : Read) → read_record b at Du.Map 0 ≡ x → (kind next : ℕ) → checked_of x ≡ Ch.Next kind next → MapChecked next
+  checked_by_lem : (x : Result (Record × ℕ) Fault) → read_record b at Du.Map 0 ≡ x → (kind next : ℕ) → checked_of x ≡ Ok (kind, next) → MapChecked next
   unfolding checked_of map_at map_of
-  checked_by_lem (Re.Record (R.Map from len) n) h kind next e =
+  checked_by_lem (Ok (R.Map from len, n)) h kind next e =
       let t = record_taken b at Du.Map 0 (R.Map from len) n h in
       let m = t.came in
-      let z : n ≡ next = cc in
+      let z : n ≡ next = (ok_parts e).1 in
       let l : len ≡ next - (at + 4) = omega (arith, z, m.0, m.1.0) in
       record { map = rw (h, m.0, l, z) refl; later = omega (arith, t.later, z); within = omega (arith, t.within, z) }
-  checked_by_lem (Re.Record (R.Head x) n) h kind next e = absurd (record_taken b at Du.Map 0 (R.Head x) n h).came
-  checked_by_lem (Re.Record (R.Block x) n) h kind next e = absurd (record_taken b at Du.Map 0 (R.Block x) n h).came
-  checked_by_lem (Re.Record (R.Instruction x) n) h kind next e = absurd (record_taken b at Du.Map 0 (R.Instruction x) n h).came
-  checked_by_lem (Re.Record (R.Terminator x) n) h kind next e = absurd (record_taken b at Du.Map 0 (R.Terminator x) n h).came
-  checked_by_lem (Re.Refused f) h kind next e = let z : ◌≡◌ {A = ℕ} 0 1 = cc in absurd (omega arith)
+  checked_by_lem (Ok (R.Head x, n)) h kind next e = absurd (record_taken b at Du.Map 0 (R.Head x) n h).came
+  checked_by_lem (Ok (R.Block x, n)) h kind next e = absurd (record_taken b at Du.Map 0 (R.Block x) n h).came
+  checked_by_lem (Ok (R.Instruction x, n)) h kind next e = absurd (record_taken b at Du.Map 0 (R.Instruction x) n h).came
+  checked_by_lem (Ok (R.Terminator x, n)) h kind next e = absurd (record_taken b at Du.Map 0 (R.Terminator x) n h).came
+  checked_by_lem (Err f) h kind next e = let z : ◌≡◌ {A = ℕ} 0 1 = cc in absurd (omega arith)
 
-  pub map_checked : (kind next : ℕ) → checked_of (read_record b at Du.Map 0) ≡ Ch.Next kind next → MapChecked next
+  pub map_checked : (kind next : ℕ) → checked_of (read_record b at Du.Map 0) ≡ Ok (kind, next) → MapChecked next
   map_checked = checked_by_lem _ refl
 
-  refused_by_check : (x : Read) → read_record b at Du.Map 0 ≡ x → (f : Fault) → checked_of x ≡ Ch.Refused f → map_of at x ≡ M.Refused f
+  refused_by_check : (x : Result (Record × ℕ) Fault) → read_record b at Du.Map 0 ≡ x → (f : Fault) → checked_of x ≡ Err f → map_of at x ≡ Err f
   unfolding checked_of map_of
-  refused_by_check (Re.Record r n) h f e = let z : ◌≡◌ {A = ℕ} 0 1 = cc in absurd (omega arith)
-  refused_by_check (Re.Refused g) h f e = let z : g ≡ f = cc in ap M.Refused z
+  refused_by_check (Ok (r, n)) h f e = let z : ◌≡◌ {A = ℕ} 0 1 = cc in absurd (omega arith)
+  refused_by_check (Err g) h f e = let z : g ≡ f = cc in ap Err z
 
-  pub map_refused : (f : Fault) → checked_of (read_record b at Du.Map 0) ≡ Ch.Refused f → map_at b at ≡ M.Refused f
+  pub map_refused : (f : Fault) → checked_of (read_record b at Du.Map 0) ≡ Err f → map_at b at ≡ Err f
   unfolding map_at
   map_refused f e = refused_by_check _ refl f e
 
-pub lies_at : (n : ℕ) (m : MapAt) (start len next : ℕ) → m ≡ M.Is start len next → Lies n m → start + len ≤ n
+pub lies_at : (n : ℕ) (m : Result MapAt Fault) (start len next : ℕ) → m ≡ Ok (record { start = start; len = len; next = next }) → Lies n m → start + len ≤ n
 unfolding Lies
 lies_at n m start len next e h = rw e at h
 
 -- ---- the maps from a byte on
 
 -- what a map's record does to the names before it
-by_map : List ℕ → List (List ℕ) → ℕ → MapAt → (List (List ℕ) → ℕ → Names) → Names
-by_map b names at (M.Is start len next) go = pick (among (part start len b) names) (refused (Broken at)) (go (names ++ (part start len b ∷ [])) next)
-by_map b names at (M.Refused f) go = refused f
+by_map : List ℕ → List (List ℕ) → ℕ → Result MapAt Fault → (List (List ℕ) → ℕ → Names) → Names
+by_map b names at (Ok m) go = pick (among (part m.start m.len b) names) (refused (Broken at)) (go (names ++ (part m.start m.len b ∷ [])) m.next)
+by_map b names at (Err f) go = refused f
 
-on_map_lem : (b : List ℕ) (names : List (List ℕ)) (at : ℕ) (x : Read) (go : List (List ℕ) → ℕ → Names) → on_map b names at x go ≡ by_map b names at (map_of at x) go
+on_map_lem : (b : List ℕ) (names : List (List ℕ)) (at : ℕ) (x : Result (Record × ℕ) Fault) (go : List (List ℕ) → ℕ → Names) → on_map b names at x go ≡ by_map b names at (map_of at x) go
 unfolding on_map map_of by_map
-on_map_lem b names at (Re.Record (R.Map start len) next) go = refl
-on_map_lem b names at (Re.Record (R.Head x) next) go = refl
-on_map_lem b names at (Re.Record (R.Block x) next) go = refl
-on_map_lem b names at (Re.Record (R.Instruction x) next) go = refl
-on_map_lem b names at (Re.Record (R.Terminator x) next) go = refl
-on_map_lem b names at (Re.Refused f) go = refl
+on_map_lem b names at (Ok (R.Map start len, next)) go = refl
+on_map_lem b names at (Ok (R.Head x, next)) go = refl
+on_map_lem b names at (Ok (R.Block x, next)) go = refl
+on_map_lem b names at (Ok (R.Instruction x, next)) go = refl
+on_map_lem b names at (Ok (R.Terminator x, next)) go = refl
+on_map_lem b names at (Err f) go = refl
 
 names_step : (b : List ℕ) (names : List (List ℕ)) (at k : ℕ) → names_at b names at (suc k) ≡ by_map b names at (map_at b at) (λ more next. names_at b more next k)
 unfolding names_at map_at
@@ -135,17 +131,17 @@ pub record ReadOne (b : List ℕ) (names : List (List ℕ)) (at k : ℕ) (all : 
   pub start : ℕ
   pub len : ℕ
   pub next : ℕ
-  pub map : map_at b at ≡ M.Is start len next
+  pub map : map_at b at ≡ Ok (record { start = start; len = len; next = next })
   pub fresh : among (part start len b) names ≡ false
   pub rest : names_at b (names ++ (part start len b ∷ [])) next k ≡ named all end
 
-read_by : (b : List ℕ) (names : List (List ℕ)) (at k : ℕ) (all : List (List ℕ)) (end : ℕ) (m : MapAt) → map_at b at ≡ m → by_map b names at m (λ more next. names_at b more next k) ≡ named all end → ReadOne b names at k all end
+read_by : (b : List ℕ) (names : List (List ℕ)) (at k : ℕ) (all : List (List ℕ)) (end : ℕ) (m : Result MapAt Fault) → map_at b at ≡ m → by_map b names at m (λ more next. names_at b more next k) ≡ named all end → ReadOne b names at k all end
 unfolding by_map
-read_by b names at k all end (M.Is start len next) h =
-    pick_ind (λ (x : Names). x ≡ named all end → ReadOne b names at k all end) (among (part start len b) names) _ _
+read_by b names at k all end (Ok m) h =
+    pick_ind (λ (x : Names). x ≡ named all end → ReadOne b names at k all end) (among (part m.start m.len b) names) _ _
     (λ t e. let z : ◌≡◌ {A = ℕ} 0 1 = cc in absurd (omega arith))
-    (λ t e. record { start = start; len = len; next = next; map = h; fresh = t; rest = e })
-read_by b names at k all end (M.Refused f) h = λ e. let z : ◌≡◌ {A = ℕ} 0 1 = cc in absurd (omega arith)
+    (λ t e. record { start = m.start; len = m.len; next = m.next; map = h; fresh = t; rest = e })
+read_by b names at k all end (Err f) h = λ e. let z : ◌≡◌ {A = ℕ} 0 1 = cc in absurd (omega arith)
 
 pub read_one : (b : List ℕ) (names : List (List ℕ)) (at k : ℕ) (all : List (List ℕ)) (end : ℕ) → names_at b names at (suc k) ≡ named all end → ReadOne b names at k all end
 read_one b names at k all end e = read_by b names at k all end (map_at b at) refl (sym (names_step b names at k) ∙ e)
@@ -192,7 +188,7 @@ pick_none : (s : Bool) → s ≡ pick s true false
 pick_none true = refl
 pick_none false = refl
 
-taken_map : (b name : List ℕ) (at k start len next : ℕ) → map_at b at ≡ M.Is start len next → taken_from b name at (suc k) ≡ pick (same_name name (part start len b)) true (taken_from b name next k)
+taken_map : (b name : List ℕ) (at k start len next : ℕ) → map_at b at ≡ Ok (record { start = start; len = len; next = next }) → taken_from b name at (suc k) ≡ pick (same_name name (part start len b)) true (taken_from b name next k)
 unfolding taken_from
 taken_map b name at k start len next e =
     let m = is_map b at start len next e in
@@ -211,10 +207,9 @@ taken_among b name (suc k) names at all end e =
     ∙ ap (λ (x : Bool). pick (among name names) true x) (sym (taken_map b name at k r.start r.len r.next r.map))
 
 module _ (b name : List ℕ) (at : ℕ) where
-  pub taken_step : (n len : ℕ) → 0 < n → len ≡ length_at b at → pick (leb (at + 4) (length b)) (leb (at + 4 + len) (length b)) false ≡ true → taken_from b name at n ≡ pick (same_name name (part (at + 4) len b)) true (taken_from b name (at + 4 + len) (n - 1))
+  pub taken_step : (k i len : ℕ) → i < k → len ≡ length_at b at → pick (leb (at + 4) (length b)) (leb (at + 4 + len) (length b)) false ≡ true → taken_from b name at (k - i) ≡ pick (same_name name (part (at + 4) len b)) true (taken_from b name (at + 4 + len) (k - (i + 1)))
   unfolding taken_from whole_at next_at
-  taken_step zero len h l e = absurd (omega arith)
-  taken_step (suc n) len h l e = let m : suc n - 1 ≡ n = omega arith in rw (← l, e, m) refl
+  taken_step k i len h l e = let m : k - i ≡ suc (k - (i + 1)) = omega arith in rw (m, ← l, e) refl
 
   pub taken_stop : (n len : ℕ) → len ≡ length_at b at → pick (leb (at + 4) (length b)) (leb (at + 4 + len) (length b)) false ≡ false → taken_from b name at n ≡ false
   unfolding taken_from whole_at
@@ -222,12 +217,11 @@ module _ (b name : List ℕ) (at : ℕ) where
   taken_stop (suc n) len l e = rw (← l, e) refl
 
 module _ (b : List ℕ) (at : ℕ) where
-  pub from_step : (n start len next : ℕ) → 0 < n → map_at b at ≡ M.Is start len next → map_from b at n ≡ map_from b next (n - 1)
+  pub from_step : (k i start len next : ℕ) → i < k → map_at b at ≡ Ok (record { start = start; len = len; next = next }) → map_from b at (k - i) ≡ map_from b next (k - (i + 1))
   unfolding map_from on_map_at
-  from_step zero start len next h e = absurd (omega arith)
-  from_step (suc n) start len next h e = let m : suc n - 1 ≡ n = omega arith in rw (e, m)
+  from_step k i start len next h e = let m : k - i ≡ suc (k - (i + 1)) = omega arith in rw (m, e)
 
-  pub from_stop : (n : ℕ) (f : Fault) → map_at b at ≡ M.Refused f → map_from b at n ≡ M.Refused f
+  pub from_stop : (n : ℕ) (f : Fault) → map_at b at ≡ Err f → map_from b at n ≡ Err f
   unfolding map_from on_map_at
   from_stop zero f e = e
   from_stop (suc n) f e = rw e refl
@@ -239,11 +233,11 @@ pub record Reached (b : List ℕ) (first k at : ℕ) : Type 0 where
   pub names : List (List ℕ)
   pub read : names_at b [] first k ≡ named names at
 
-refused_at_lem : (t : Bool) (at n : ℕ) (f : Fault) (x : Names) → pick t (Ms.Refused (Broken at)) (Ms.Until n) ≡ Ms.Refused f → pick t (refused (Broken at)) x ≡ refused f
+refused_at_lem : (t : Bool) (at n : ℕ) (f : Fault) (x : Names) → pick t (Err (Broken at)) (Ok n) ≡ Err f → pick t (refused (Broken at)) x ≡ refused f
 refused_at_lem true at n f x e = let z : Broken at ≡ f = cc in ap refused z
 refused_at_lem false at n f x e = let z : ◌≡◌ {A = ℕ} 0 1 = cc in absurd (omega arith)
 
-until_at : (t : Bool) (at n next : ℕ) → pick t (Ms.Refused (Broken at)) (Ms.Until n) ≡ Ms.Until next → (t ≡ false) × (n ≡ next)
+until_at : (t : Bool) (at n next : ℕ) → pick t (Err (Broken at)) (Ok n) ≡ Ok next → (t ≡ false) × (n ≡ next)
 until_at true at n next e = let z : ◌≡◌ {A = ℕ} 0 1 = cc in absurd (omega arith)
 until_at false at n next e = (refl, cc)
 
@@ -256,30 +250,30 @@ module _ (b : List ℕ) (first k at : ℕ) (r : Reached b first k at) where
   pub record ReadNext (next : ℕ) : Type 0 where
     pub start : ℕ
     pub len : ℕ
-    pub map : map_at b at ≡ M.Is start len next
+    pub map : map_at b at ≡ Ok (record { start = start; len = len; next = next })
     pub read : names_at b [] first (k + 1) ≡ named (r.names ++ (part start len b ∷ [])) next
 
-  until_by : (m : MapAt) (next : ℕ) → map_at b at ≡ m → one_more b first k at m ≡ Ms.Until next → ReadNext next
+  until_by : (m : Result MapAt Fault) (next : ℕ) → map_at b at ≡ m → one_more b first k at m ≡ Ok next → ReadNext next
   unfolding one_more by_map names_at
-  until_by (M.Is start len n) next h e =
-      let u = until_at (among (part start len b) r.names) at n next (rw (taken_is (part start len b)) at e) in
+  until_by (Ok m) next h e =
+      let u = until_at (among (part m.start m.len b) r.names) at m.next next (rw (taken_is (part m.start m.len b)) at e) in
       record {
-        start = start;
-        len = len;
-        map = h ∙ ap (M.Is start len) u.1;
+        start = m.start;
+        len = m.len;
+        map = h ∙ ap (λ (n : ℕ). Ok (record { start = m.start; len = m.len; next = n })) u.1;
         read = names_add b k 1 [] first r.names at r.read ∙ names_step b r.names at 0 ∙ rw (h, u.0, u.1);
       }
-  until_by (M.Refused f) next h e = let z : ◌≡◌ {A = ℕ} 0 1 = cc in absurd (omega arith)
+  until_by (Err f) next h e = let z : ◌≡◌ {A = ℕ} 0 1 = cc in absurd (omega arith)
 
-  refused_by : (j : ℕ) (m : MapAt) (f : Fault) → one_more b first k at m ≡ Ms.Refused f → by_map b r.names at m (λ more next. names_at b more next j) ≡ refused f
+  refused_by : (j : ℕ) (m : Result MapAt Fault) (f : Fault) → one_more b first k at m ≡ Err f → by_map b r.names at m (λ more next. names_at b more next j) ≡ refused f
   unfolding one_more by_map
-  refused_by j (M.Is start len next) f e = refused_at_lem (among (part start len b) r.names) at next f _ (rw (taken_is (part start len b)) at e)
-  refused_by j (M.Refused g) f e = let z : g ≡ f = cc in ap refused z
+  refused_by j (Ok m) f e = refused_at_lem (among (part m.start m.len b) r.names) at m.next f _ (rw (taken_is (part m.start m.len b)) at e)
+  refused_by j (Err g) f e = let z : g ≡ f = cc in ap refused z
 
-  pub read_next : (next : ℕ) → one_more b first k at (map_at b at) ≡ Ms.Until next → ReadNext next
+  pub read_next : (next : ℕ) → one_more b first k at (map_at b at) ≡ Ok next → ReadNext next
   read_next next e = until_by (map_at b at) next refl e
 
-  pub reached_refused : (maps : ℕ) (f : Fault) → k < maps → one_more b first k at (map_at b at) ≡ Ms.Refused f → names_at b [] first maps ≡ refused f
+  pub reached_refused : (maps : ℕ) (f : Fault) → k < maps → one_more b first k at (map_at b at) ≡ Err f → names_at b [] first maps ≡ refused f
   reached_refused maps f h e =
       let j = maps - k - 1 in
       let m : maps ≡ k + suc j = omega arith in
@@ -303,8 +297,8 @@ pub record NameAt (b : List ℕ) (first k : ℕ) (name : List ℕ) : Type 0 wher
   pub start : ℕ
   pub len : ℕ
   pub next : ℕ
-  pub map : map_at b at ≡ M.Is start len next
-  pub found : map_from b first k ≡ M.Is start len next
+  pub map : map_at b at ≡ Ok (record { start = start; len = len; next = next })
+  pub found : map_from b first k ≡ Ok (record { start = start; len = len; next = next })
   pub name_is : name ≡ part start len b
 
 pub name_at : (b : List ℕ) (n k : ℕ) (names : List (List ℕ)) (at : ℕ) (all : List (List ℕ)) (end : ℕ) → names_at b names at n ≡ named all end → k < n → NameAt b at k (get_or all (length names + k) [])

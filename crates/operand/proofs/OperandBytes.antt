@@ -1,7 +1,7 @@
 -- How many bytes operands have, and how they are written one after the other.
 use mathlib.Core.Path.{◌≡◌, refl, sym, ap, ◌∙◌}
 use mathlib.Core.List.{List, [], ◌∷◌}
-use Prim.Native.Nat.{ℕ, ◌+◌, ◌*◌, ◌≤◌}
+use Prim.Native.Nat.{ℕ, suc, ◌+◌, ◌*◌, ◌≤◌}
 use native.Mathlib.Omega.{arith}
 use lib.ListN.{length, length-append}
 use Rattle.wire.specs.Le.{store}
@@ -10,10 +10,10 @@ use Rattle.ir.specs.Operands.{list_of, first_of, rest_of}
 use Rattle.ir.specs.declared.Operand.{Operand}
 use Rattle.ir.specs.declared.Operand.TheVariants.{Var, Immediate}
 use Rattle.ir.specs.declared.operands.Operands.{Operands}
-use Rattle.ir.specs.declared.operands.Front.TheVariants.{Is, Nothing}
 use Rattle.ir.proofs.OperandLaws.{first_is, first_nothing}
 use Rattle.operand.specs.Operand.{operand_bytes, operands_bytes}
 use Rattle.operand.proofs.Pieces.{Puts, ◌▸◌, nothing}
+use Rattle.std.specs.Prelude.{None, Some}
 
 pub operand_length : (o : Operand) → length (operand_bytes o) ≡ 9
 unfolding operand_bytes
@@ -31,13 +31,17 @@ operand o e = record { size = operand_length o; left = λ h. e }
 pub operands : {b c : List ℕ} {at : ℕ} (os : List Operand) → c ≡ store b at (operands_bytes os) → Puts b at (9 * length os) (operands_bytes os) c
 operands os e = record { size = operands_length os; left = λ h. e }
 
+-- where there is a first operand, it is one more than the rest
+pub first_counted : (l : Operands) (o : Operand) → first_of l ≡ Some o → length (list_of l) ≡ suc (length (list_of (rest_of l)))
+first_counted l o f = ap length (first_is l o f)
+
 -- the first operand is written, the rest are left
-pub operand_step : (l : Operands) (o : Operand) (b : List ℕ) (i : ℕ) {c : List ℕ} → first_of l ≡ Is o → c ≡ store b i (operand_bytes o) → i + 9 * length (list_of l) ≤ length b → store c (i + 9) (operands_bytes (list_of (rest_of l))) ≡ store b i (operands_bytes (list_of l))
+pub operand_step : (l : Operands) (o : Operand) (b : List ℕ) (i : ℕ) {c : List ℕ} → first_of l ≡ Some o → c ≡ store b i (operand_bytes o) → i + 9 * length (list_of l) ≤ length b → store c (i + 9) (operands_bytes (list_of (rest_of l))) ≡ store b i (operands_bytes (list_of l))
 unfolding operands_bytes
 operand_step l o b i f e h =
     let s : list_of l ≡ o ∷ list_of (rest_of l) = first_is l o f in
     (operand o e ▸ operands (list_of (rest_of l)) refl).left (omega (arith, ap length s)) ∙ ap (λ (x : List Operand). store b i (operands_bytes x)) (sym s)
 
-pub operand_end : (l : Operands) (b : List ℕ) (i : ℕ) → first_of l ≡ Nothing → b ≡ store b i (operands_bytes (list_of l))
+pub operand_end : (l : Operands) (b : List ℕ) (i : ℕ) → first_of l ≡ None → b ≡ store b i (operands_bytes (list_of l))
 unfolding operands_bytes
 operand_end l b i f = nothing b i ∙ ap (λ (x : List Operand). store b i (operands_bytes x)) (sym (first_nothing l f))

@@ -1,5 +1,5 @@
 -- An operand is tag 0, u32 variable, four zero bytes; or tag 1, i64 immediate.
-use Rattle.std.specs.Prelude.{ℕ, zero, suc, ◌+◌, Bool, true, false, List, [], ◌∷◌, ◌++◌, eqb, leb, length}
+use Rattle.std.specs.Prelude.{ℕ, zero, suc, ◌+◌, Bool, true, false, List, [], ◌∷◌, ◌++◌, eqb, leb, length, None, Option, Some}
 use Rattle.std.specs.Int.{w32, w64}
 use Rattle.wire.specs.Pick.{pick}
 use Rattle.wire.specs.Le.{byte_at, unsigned_at, signed_at, unsigned_bytes, signed_bytes}
@@ -7,36 +7,32 @@ use Rattle.ir.specs.declared.Operand.{Operand}
 use Rattle.ir.specs.declared.Operand.TheVariants.{Var, Immediate}
 use Rattle.ir.specs.declared.operands.Operands.{Operands}
 use Rattle.ir.specs.Operands.{pushed}
-use Rattle.operand.specs.declared.ReadOperand.{ReadOperand}
-use Rattle.operand.specs.declared.ReadOperand.TheVariants as O
-use Rattle.operand.specs.declared.ReadOperands.{ReadOperands}
-use Rattle.operand.specs.declared.ReadOperands.TheVariants as L
 
 -- the operand in the nine bytes at i, which lie whole in b
-unfoldable pub operand_at : List ℕ → ℕ → ReadOperand
+unfoldable pub operand_at : List ℕ → ℕ → Option Operand
 operand_at b i =
     pick (leb (i + 9) (length b))
-    (pick (eqb (byte_at b i) 0) (pick (eqb (unsigned_at w32 b (i + 5)) 0) (O.Is (Var (unsigned_at w32 b (i + 1)))) O.Broken)
-    (pick (eqb (byte_at b i) 1) (O.Is (Immediate (signed_at w64 b (i + 1)))) O.Broken))
-    O.Broken
+    (pick (eqb (byte_at b i) 0) (pick (eqb (unsigned_at w32 b (i + 5)) 0) (Some (Var (unsigned_at w32 b (i + 1)))) None)
+    (pick (eqb (byte_at b i) 1) (Some (Immediate (signed_at w64 b (i + 1)))) None))
+    None
 
-unfoldable pub on_operand : ReadOperand → (Operand → ReadOperands) → ReadOperands
-on_operand (O.Is o) then = then o
-on_operand O.Broken then = L.Broken
+unfoldable pub on_operand : Option Operand → (Operand → Option Operands) → Option Operands
+on_operand (Some o) then = then o
+on_operand None then = None
 
 -- the operands l and the k from i on
-unfoldable pub operands_at : Operands → List ℕ → ℕ → ℕ → ReadOperands
-operands_at l b i zero = L.Is l
+unfoldable pub operands_at : Operands → List ℕ → ℕ → ℕ → Option Operands
+operands_at l b i zero = Some l
 operands_at l b i (suc k) = on_operand (operand_at b i) (λ o. operands_at (pushed l o) b (i + 9) k)
 
 -- the bytes are an operand's, and those of so many
-unfoldable pub is_operand : ReadOperand → Bool
-is_operand (O.Is o) = true
-is_operand O.Broken = false
+unfoldable pub is_operand : Option Operand → Bool
+is_operand (Some o) = true
+is_operand None = false
 
-unfoldable pub are_operands : ReadOperands → Bool
-are_operands (L.Is l) = true
-are_operands L.Broken = false
+unfoldable pub are_operands : Option Operands → Bool
+are_operands (Some l) = true
+are_operands None = false
 
 -- the operand at i in bytes that are known to be an operand's: tag 1 is an immediate's
 unfoldable pub operand_in : List ℕ → ℕ → Operand

@@ -16,11 +16,11 @@ use Rattle.shape.specs.declared.Shapes.TheVariants as Ss
 use Rattle.paths.specs.Registers.{Regs, reads, at_start}
 use Rattle.paths.specs.Way.{on, Way, begin, step, Clear, Passes}
 use Rattle.screen.specs.declared.Fault.TheVariants.{PastEnd}
-use Rattle.screen.specs.declared.Verdict.TheVariants.{Refused}
 use Rattle.screen.specs.Verdict.{Judged, past}
 use Rattle.ours.proofs.Safe.{goes_on}
 use Rattle.ours.proofs.Pieces.{kept_none, kept_cons, has_form, as_seen, fine_here}
 use Rattle.ours.proofs.Whole.{first, keeps_first, first_narrow, code, code_slots, whole, judged_right}
+use Rattle.std.specs.Prelude.{Err, Ok}
 
 module _ (xs : List Start) where
   abbrev pub alone : List ℕ
@@ -38,7 +38,7 @@ module _ (xs : List Start) where
   unfolding insns
   alone_seen = as_seen alone 0 keeps_first (whole xs (plain first ∷ [])).stands.0
 
-  pub alone_judged : judged alone [] ≡ Ss.Fine
+  pub alone_judged : judged alone [] ≡ Ok tt
   unfolding slots_of relocations insns uses
   alone_judged = judged_right xs (plain first ∷ []) (omega arith) (omega arith) (first_narrow, tt) (kept_cons (fine_here alone 0 keeps_first (whole xs (plain first ∷ [])).stands.0 refl) kept_none)
 
@@ -61,5 +61,5 @@ module _ (xs : List Start) where
   unfolding uses
   alone_passes = (1, (_, (step begin (omega (arith, one_slot)) (on {n = 0} (rw alone_form)), omega (arith, one_slot))))
 
-  pub alone_past : Judged alone (Refused (PastEnd 1))
-  alone_past = subst (λ (n : ℕ). Judged alone (Refused (PastEnd n))) one_slot (past alone_clear alone_passes)
+  pub alone_past : Judged alone (Err (PastEnd 1))
+  alone_past = subst (λ (n : ℕ). Judged alone (Err (PastEnd n))) one_slot (past alone_clear alone_passes)

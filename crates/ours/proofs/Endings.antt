@@ -21,8 +21,6 @@ use Rattle.insn.specs.declared.Insn.{Insn}
 use Rattle.insn.specs.declared.form.Form.TheVariants.{Ja, JneImm, Exit}
 use Rattle.insn.proofs.Forms.{form_opcode}
 use Rattle.frame.specs.Cell.{Frame}
-use Rattle.frame.specs.declared.Cell.{Cell}
-use Rattle.frame.specs.declared.Cell.TheVariants.{At, Missing}
 use Rattle.lower.specs.Op.{Op, plain, map, ja, jne, Lowered, becomes, refused, insn, slots_of, ◌▸◌}
 use Rattle.lower.specs.Operand.{constant, on_cell, load}
 use Rattle.lower.specs.Terminator.{terminator}
@@ -41,6 +39,7 @@ use Rattle.ours.proofs.Standing.{Narrow, Here, after_plain, front}
 use Rattle.ours.proofs.Pieces.{Kept, kept_none, kept_cons, has_form, as_seen, fine_here, inside_here, Piece}
 use Rattle.ours.proofs.Steps.{none_read, one_read, with_has, under_with, slim, made, keeps_ja, keeps_jne, exits, keeps_exit, exit_inside}
 use Rattle.ours.proofs.Instructions.{Cells, Moves, m_load}
+use Rattle.std.specs.Prelude.{None, Ok, Option, Some}
 
 -- ---- targets
 
@@ -174,7 +173,7 @@ module _ (b : List ℕ) (xs : List Start) (good : (p : ℕ) → Slot xs p → (p
         let g = jumping (opcode_of Ja) e in
         inside_here b s k g l (none_read (λ x. refl)) (λ q t. there q u (jumps_to b s Ja (has_form b s k g) refl (to_block (as_seen b s k g) refl) t))
 
-    jne_fine : at b s ≡ seen (made (opcode_of JneImm) 0 0 (distance_to (last_start xs id) s) (pos 0)) → shape_at b s ≡ S.Fine
+    jne_fine : at b s ≡ seen (made (opcode_of JneImm) 0 0 (distance_to (last_start xs id) s) (pos 0)) → shape_at b s ≡ Ok tt
     unfolding uses
     jne_fine e = fine_here b s (keeps_jne _ R.near) (jumping _ e) at_block
 
@@ -228,10 +227,10 @@ a_constant : (t : Bool) (i : Insn) (r : Reason) → Jumpless i → Alone (pick t
 a_constant true i r n = one i n
 a_constant false i r n = nothing
 
-a_cell : (v : ℕ) (x : Cell) (g : ℤ → Insn) → ((z : ℤ) → Jumpless (g z)) → Alone (on_cell v x (λ z. becomes (plain (g z) ∷ [])))
+a_cell : (v : ℕ) (x : Option ℤ) (g : ℤ → Insn) → ((z : ℤ) → Jumpless (g z)) → Alone (on_cell v x (λ z. becomes (plain (g z) ∷ [])))
 unfolding on_cell
-a_cell v (At z) g n = one (g z) (n z)
-a_cell v Missing g n = nothing
+a_cell v (Some z) g n = one (g z) (n z)
+a_cell v None g n = nothing
 
 a_load : (f : Frame) (r : ℕ) (o : Operand) → Alone (load f r o)
 unfolding load constant insn uses

@@ -22,16 +22,12 @@ use Rattle.ir.specs.declared.Instruction.{Instruction}
 use Rattle.insn.specs.Rfc.{LDX, STX, width}
 use Rattle.insn.specs.Form.{opcode_of, form_of, mem_code}
 use Rattle.insn.specs.Helper.{helpers, among, helper_of, is_helper, arguments}
-use Rattle.insn.specs.declared.MemCode.{MemCode}
-use Rattle.insn.specs.declared.MemCode.TheVariants as M
 use Rattle.insn.specs.declared.form.Size.{Size}
 use Rattle.insn.specs.declared.form.Size.TheVariants.{Dw}
 use Rattle.insn.specs.declared.form.Form.TheVariants.{Ldx, Stx, AluImm, AluReg}
 use Rattle.insn.proofs.Forms.{form_opcode}
 use Rattle.insn.proofs.Widths.{ldx_form, stx_form}
 use Rattle.frame.specs.Cell.{Frame}
-use Rattle.frame.specs.declared.Cell.{Cell}
-use Rattle.frame.specs.declared.Cell.TheVariants.{At, Missing}
 use Rattle.frame.specs.Apart.{InFrame}
 use Rattle.lower.specs.Op.{Op, Lowered, becomes, refused, insn, ◌▸◌}
 use Rattle.lower.specs.Operand.{constant, move, add, call, on_cell, load, addr, next, keep, map_address}
@@ -44,6 +40,7 @@ use Rattle.ours.proofs.Safe.{base, Under, under_all, holds_base}
 use Rattle.ours.proofs.Pieces.{Piece, join, asking, single, map_piece}
 use Rattle.ours.proofs.Steps.{none_read, one_read, two_read, with_has, under_with, Upto, Takes, call_ready, keeps_mov, keeps_move, keeps_alu, keeps_reg, keeps_ldx, keeps_stx, keeps_call}
 use Rattle.ours.proofs.NullCheck.{choosing_piece, leaving_piece}
+use Rattle.std.specs.Prelude.{None, Option, Some}
 
 -- ---- cells
 
@@ -64,7 +61,7 @@ small z F =
     rw (F.is, e) (omega arith)
 
 pub record Cells (f : Frame) : Type 0 where
-  pub cell : (v : ℕ) (z : ℤ) → f.cell v ≡ At z → InFrame z
+  pub cell : (v : ℕ) (z : ℤ) → f.cell v ≡ Some z → InFrame z
   pub scratch : (j : ℕ) → InFrame (f.scratch j)
 
 -- ---- what is lowered, from a set of registers to a set
@@ -111,10 +108,10 @@ module _ {D : Regs} where
   unfolding map_address
   m_map m = some (map_piece m)
 
-  m_cell : (v : ℕ) (x : Cell) (g : ℤ → Lowered) {E : Regs} → ((z : ℤ) → x ≡ At z → Moves (g z) D E) → Moves (on_cell v x g) D E
+  m_cell : (v : ℕ) (x : Option ℤ) (g : ℤ → Lowered) {E : Regs} → ((z : ℤ) → x ≡ Some z → Moves (g z) D E) → Moves (on_cell v x g) D E
   unfolding on_cell
-  m_cell v (At z) g h = h z refl
-  m_cell v Missing g h = none
+  m_cell v (Some z) g h = h z refl
+  m_cell v None g h = none
 
   module _ (f : Frame) (c : Cells f) where
     pub m_load : (r : ℕ) (o : Operand) → r < 10 → D 10 ≡ true → Moves (load f r o) D (with r D)
@@ -160,10 +157,10 @@ m_reg : (op : BinaryOp) {D : Regs} → D 0 ≡ true → D 1 ≡ true → Moves (
 unfolding insn uses reads after
 m_reg op d g = some (single (keeps_reg op) refl refl (two_read 0 1 (λ x. refl) d g))
 
-m_sized : (x : MemCode) (bad : Reason) (g : ℕ → Lowered) {D E : Regs} → ((code : ℕ) → x ≡ M.Code code → Moves (g code) D E) → Moves (sized x bad g) D E
+m_sized : (x : Option ℕ) (bad : Reason) (g : ℕ → Lowered) {D E : Regs} → ((code : ℕ) → x ≡ Some code → Moves (g code) D E) → Moves (sized x bad g) D E
 unfolding sized
-m_sized (M.Code code) bad g h = h code refl
-m_sized M.Unsupported bad g h = none
+m_sized (Some code) bad g h = h code refl
+m_sized None bad g h = none
 
 -- ---- counts
 

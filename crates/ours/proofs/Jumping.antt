@@ -17,7 +17,6 @@ use Rattle.lower.specs.Operand.{move}
 use Rattle.lower.specs.Instruction.{instruction, scratch_after}
 use Rattle.lower.specs.Step.{map_ops}
 use Rattle.lower.specs.Terminator.{terminator}
-use Rattle.lower.specs.declared.MapUse.TheVariants as U
 use Rattle.layout.specs.Layout.{Laid, laid, at as lay, ◌then◌, Context, instructions, scratch_through, block, blocks, unit_ops, ops, slots}
 use Rattle.layout.specs.Jumps.{Start, last_start, distance, Jump, jas, jnes, patches, jumps_from, jumps}
 use Rattle.layout.specs.Code.{insns, code_bytes, distance_to}
@@ -35,6 +34,7 @@ use Rattle.ours.proofs.Safe.{jumps_to, branches_to}
 use Rattle.ours.proofs.Pieces.{as_seen, has_form}
 use Rattle.ours.proofs.Steps.{made, keeps_ja, keeps_jne}
 use Rattle.ours.proofs.Endings.{distance_target, Reaches}
+use Rattle.std.specs.Prelude.{None, Some}
 
 -- ---- operations among others
 
@@ -145,8 +145,8 @@ module _ (P : ℕ → ℕ → Type 0) where
 
   each_tidy : {n : ℕ} (place s : ℕ) (x : Lowered) → Tidy n x → Each P s (ops (lay place x))
   unfolding lay ops map_ops
-  each_tidy place s _ (Tidy.some U.Nothing is most) = each_plain s is
-  each_tidy place s _ (Tidy.some (U.Map m) is most) = each_plain (s + 2) is
+  each_tidy place s _ (Tidy.some None is most) = each_plain s is
+  each_tidy place s _ (Tidy.some (Some m) is most) = each_plain (s + 2) is
   each_tidy place s _ (Tidy.none r) = tt
 
   each_body : (c : Context) (j s : ℕ) (ps : List PlacedInstruction) → Fine (instructions c j ps) → Each P s (ops (instructions c j ps))

@@ -27,6 +27,7 @@ use Rattle.ours.proofs.Safe.{Safe, Inside, inside, jumps_to, branches_to}
 use Rattle.ours.proofs.Standing.{Narrow, Here, after_plain}
 use Rattle.ours.proofs.Pieces.{Kept, kept_none, kept_cons, Confined, confined_none, confined_cons, Keeps, has_form, as_seen, fine_here, inside_here, no_jump, step_here, Piece}
 use Rattle.ours.proofs.Steps.{none_read, one_read, with_has, slim, made, keeps_mov, keeps_jeq, keeps_ja, exits, keeps_exit, exit_inside}
+use Rattle.std.specs.Prelude.{Ok}
 
 -- Rr = n
 abbrev movs : ℕ → ℕ → Insn
@@ -46,7 +47,7 @@ module _ (b : List ℕ) (s r n : ℕ) (low : r < 10) (h : n < 2) (e : at b s ≡
   unfolding fits32
   keeps_bit = keeps_mov r (pos n) low (lt-ltb n (2 ^ 31) (omega arith))
 
-  bit_fine : shape_at b s ≡ S.Fine
+  bit_fine : shape_at b s ≡ Ok tt
   unfolding uses
   bit_fine = fine_here b s keeps_bit e refl
 
@@ -73,7 +74,7 @@ module _ (b : List ℕ) (s k t : ℕ) (few : k < 3) (q : suc s + k ≡ t) where
   forward {v = v} e o w = let g = sym w.to ∙ ahead e o in let z : v ≡ t = cc in (omega arith, z)
 
   module _ (e : at b s ≡ seen (jas k)) where
-    ja_fine : t < slots b → start b t ≡ true → shape_at b s ≡ S.Fine
+    ja_fine : t < slots b → start b t ≡ true → shape_at b s ≡ Ok tt
     unfolding uses
     ja_fine l h = fine_here b s (keeps_ja (pos k) (omega arith)) e (lands l h)
 
@@ -91,7 +92,7 @@ module _ (b : List ℕ) (s k t : ℕ) (few : k < 3) (q : suc s + k ≡ t) where
     jeq_forward : {v : ℕ} → JumpsTo b s v → (s < v) × (v ≡ t)
     jeq_forward w = forward (as_seen b s (keeps_jeq (pos k) (omega arith)) e) refl w
 
-    jeq_fine : t < slots b → start b t ≡ true → shape_at b s ≡ S.Fine
+    jeq_fine : t < slots b → start b t ≡ true → shape_at b s ≡ Ok tt
     unfolding uses
     jeq_fine l h = fine_here b s (keeps_jeq (pos k) (omega arith)) e (lands l h)
 

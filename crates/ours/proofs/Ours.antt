@@ -17,8 +17,6 @@ use Rattle.shape.specs.Code.{slots}
 use Rattle.screen.specs.Verdict.{Screened}
 use Rattle.screen.specs.Faultless.{NoFault}
 use Rattle.screen.specs.declared.Fault.TheVariants.{PastEnd}
-use Rattle.screen.specs.declared.Verdict.{Verdict}
-use Rattle.screen.specs.declared.Verdict.TheVariants.{Yes, Refused}
 use Rattle.screen.proofs.Before as before
 use Rattle.screen.proofs.Exact.{says_yes}
 use Rattle.screen.proofs.OneAnswer.{one_verdict}
@@ -29,6 +27,8 @@ use Rattle.ours.proofs.Whole.{first, unit_parts}
 use Rattle.ours.proofs.Faultless.{no_fault}
 use Rattle.ours.proofs.Alone.{one_slot, alone_judged, alone_past}
 use Rattle.ours.proofs.UnitRoom.{emitted_slots}
+use Rattle.screen.specs.declared.Fault.{Fault}
+use Rattle.std.specs.Prelude.{Err, Ok, Result, ⊤}
 
 -- ---- what lowering hands on
 
@@ -79,11 +79,11 @@ unit_past_end u c l = go u.blocks
 
 -- ---- the screen's verdict, whatever its table
 
-pub yes_without_fault : (b l t : List ℕ) (v : Verdict) (u : List ℕ) → NoFault b l → slots b ≤ length t → Screened b l t v u → v ≡ Yes
+pub yes_without_fault : (b l t : List ℕ) (v : Result ⊤ Fault) (u : List ℕ) → NoFault b l → slots b ≤ length t → Screened b l t v u → v ≡ Ok tt
 yes_without_fault b l t v u n room p = (says_yes b l t v u room p).1 n
 
-pub past_end_alone : (b l t : List ℕ) (v : Verdict) (u : List ℕ) → OnlyPastEnd b l → slots b ≤ length t → Screened b l t v u → v ≡ Refused (PastEnd 1)
+pub past_end_alone : (b l t : List ℕ) (v : Result ⊤ Fault) (u : List ℕ) → OnlyPastEnd b l → slots b ≤ length t → Screened b l t v u → v ≡ Err (PastEnd 1)
 past_end_alone b l t v u o room p =
     let e = before.whole b l (length t) room o.before in
     let q = rw e at p in
-    (one_verdict b l t v (Refused (PastEnd 1)) u u p (rw e (o.paths, q.1))).0
+    (one_verdict b l t v (Err (PastEnd 1)) u u p (rw e (o.paths, q.1))).0

@@ -31,27 +31,28 @@ use Rattle.ours.specs.Landing.{JumpsTo}
 use Rattle.ours.proofs.Seen.{seen, seen_is}
 use Rattle.ours.proofs.Safe.{Under, Ready, Safe, widen, Inside, inside, goes_on}
 use Rattle.ours.proofs.Standing.{Narrow, narrow_append, Here, form_by, wide_map, front, back}
+use Rattle.std.specs.Prelude.{Ok}
 
 -- ---- shapes
 
 -- each start among the n slots from s on is fine
 pub record Kept (b : List ℕ) (s n : ℕ) : Type 0 where
-  pub each : (u : ℕ) → s ≤ u → u < s + n → start b u ≡ true → shape_at b u ≡ S.Fine
+  pub each : (u : ℕ) → s ≤ u → u < s + n → start b u ≡ true → shape_at b u ≡ Ok tt
 
 pub kept_none : {b : List ℕ} {s : ℕ} → Kept b s 0
 kept_none = record { each = λ u l m h. absurd (omega arith) }
 
-pub kept_cons : {b : List ℕ} {s n : ℕ} → shape_at b s ≡ S.Fine → Kept b (suc s) n → Kept b s (suc n)
+pub kept_cons : {b : List ℕ} {s n : ℕ} → shape_at b s ≡ Ok tt → Kept b (suc s) n → Kept b s (suc n)
 kept_cons {b} {s} {n} e k = record { each = λ u l m h. go u l m h (dec_lt s u) }
   where
-    go : (u : ℕ) → s ≤ u → u < s + suc n → start b u ≡ true → Dec (s < u) → shape_at b u ≡ S.Fine
+    go : (u : ℕ) → s ≤ u → u < s + suc n → start b u ≡ true → Dec (s < u) → shape_at b u ≡ Ok tt
     go u l m h (yes d) = k.each u d (omega arith) h
     go u l m h (no d) = let q : u ≡ s = omega arith in rw q e
 
 pub kept_join : {b : List ℕ} {s n m : ℕ} → Kept b s n → Kept b (s + n) m → Kept b s (n + m)
 kept_join {b} {s} {n} {m} p q = record { each = λ u l k h. go u l k h (dec_lt u (s + n)) }
   where
-    go : (u : ℕ) → s ≤ u → u < s + (n + m) → start b u ≡ true → Dec (u < s + n) → shape_at b u ≡ S.Fine
+    go : (u : ℕ) → s ≤ u → u < s + (n + m) → start b u ≡ true → Dec (u < s + n) → shape_at b u ≡ Ok tt
     go u l k h (yes d) = p.each u l d h
     go u l k h (no d) = q.each u (omega arith) (omega arith) h
 
@@ -97,7 +98,7 @@ module _ (b : List ℕ) (s : ℕ) {i : Insn} {f : Form} {j : Insn} (K : Keeps i 
   pub has_form : form_at b s ≡ f
   has_form = form_by b s i e ∙ K.form
 
-  pub fine_here : implies (uses f).jumps (is_start b (target s j.off)) ≡ true → shape_at b s ≡ S.Fine
+  pub fine_here : implies (uses f).jumps (is_start b (target s j.off)) ≡ true → shape_at b s ≡ Ok tt
   fine_here t =
       rules_fine b s (record {
         form = rw has_form (K.knows b s as_seen);
@@ -188,7 +189,7 @@ not_second : (b : List ℕ) (xs : List Start) (s m u : ℕ) → Here b xs s (map
 not_second b xs s m u h l k t = let q : u ≡ suc s = omega arith in true≢false (sym (rw q at t) ∙ start_second b s h.begins (wide_map b xs s m [] h))
 
 module _ (b : List ℕ) (s : ℕ) (e : at b s ≡ seen wide_insn) (z : at b (suc s) ≡ seen zero_insn) (l : suc s < slots b) where
-  wide_fine : shape_at b s ≡ S.Fine
+  wide_fine : shape_at b s ≡ Ok tt
   unfolding uses known registers_ok unused_zero access_ok all_zero is_zero
   wide_fine =
       let w = wide_form b s e in

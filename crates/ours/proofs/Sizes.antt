@@ -20,19 +20,16 @@ use Rattle.ir.specs.declared.Terminator.{Terminator}
 use Rattle.ir.specs.declared.Terminator.TheVariants.{Return, Jump, Branch}
 use Rattle.insn.specs.Rfc.{LDX, STX}
 use Rattle.insn.specs.Form.{mem_code}
-use Rattle.insn.specs.declared.MemCode.{MemCode}
-use Rattle.insn.specs.declared.MemCode.TheVariants as M
 use Rattle.insn.specs.declared.form.Form.{Form}
 use Rattle.record.specs.Terminator.{terminator_size}
 use Rattle.frame.specs.Cell.{Frame}
-use Rattle.frame.specs.declared.Cell.{Cell}
-use Rattle.frame.specs.declared.Cell.TheVariants.{At, Missing}
 use Rattle.lower.specs.Op.{Op, ja, jne, Lowered, becomes, refused, insn, slots_of, ◌▸◌}
 use Rattle.lower.specs.Operand.{constant, move, add, call, on_cell, load, addr, next, keep, map_address}
 use Rattle.lower.specs.Instruction.{on_first, on_two, on_three, on_none, sized, mem, operate, from_context, helper_call, null_check, opcode, instruction}
 use Rattle.lower.specs.Terminator.{terminator}
 use Rattle.lower.specs.declared.Reason.{Reason}
 use Rattle.layout.proofs.Laid.{slots_append}
+use Rattle.std.specs.Prelude.{None, Option, Some}
 
 -- at most n slots
 record Most (x : Lowered) (n : ℕ) : Type 0 where
@@ -92,15 +89,15 @@ s_mem : (code dst src : ℕ) (off : ℤ) → Most (mem code dst src off) 1
 unfolding mem slots_of
 s_mem code dst src off = some _ (omega arith)
 
-s_cell : (v : ℕ) (x : Cell) (g : ℤ → Lowered) {n : ℕ} → ((z : ℤ) → Most (g z) n) → Most (on_cell v x g) n
+s_cell : (v : ℕ) (x : Option ℤ) (g : ℤ → Lowered) {n : ℕ} → ((z : ℤ) → Most (g z) n) → Most (on_cell v x g) n
 unfolding on_cell
-s_cell v (At z) g h = h z
-s_cell v Missing g h = none
+s_cell v (Some z) g h = h z
+s_cell v None g h = none
 
-s_sized : (x : MemCode) (bad : Reason) (g : ℕ → Lowered) {n : ℕ} → ((code : ℕ) → Most (g code) n) → Most (sized x bad g) n
+s_sized : (x : Option ℕ) (bad : Reason) (g : ℕ → Lowered) {n : ℕ} → ((code : ℕ) → Most (g code) n) → Most (sized x bad g) n
 unfolding sized
-s_sized (M.Code code) bad g h = h code
-s_sized M.Unsupported bad g h = none
+s_sized (Some code) bad g h = h code
+s_sized None bad g h = none
 
 module _ (f : Frame) where
   s_load : (r : ℕ) (o : Operand) → Most (load f r o) 1

@@ -19,11 +19,11 @@ use Rattle.layout.proofs.Written.{insns_append, insns_count}
 use Rattle.shape.specs.Code.{at, form_at, wide, start}
 use Rattle.shape.specs.Fields.{uses}
 use Rattle.shape.specs.Relocations.{wide_from, differs}
-use Rattle.shape.specs.declared.Relocations.TheVariants.{Exact}
 use Rattle.shape.proofs.Starts.{start_narrow, start_second, start_wide}
 use Rattle.shape.proofs.Rules.{wide_form}
 use Rattle.ours.specs.Landing.{StandAt}
 use Rattle.ours.proofs.Seen.{seen, seen_code, Stands, stands_front, stands_back, wide_by}
+use Rattle.std.specs.Prelude.{Ok}
 
 -- the plain instructions are none of two slots
 abbrev pub Narrow : List Op → Type 0
@@ -138,7 +138,7 @@ module _ (b : List ℕ) (xs : List Start) where
 
   -- ---- 37
 
-  pub relocs_exact : (k s : ℕ) (l : List Op) → Narrow l → Here b xs s l → differs k (wide_from b s (slots_of l)) (relocations s l) ≡ Exact
+  pub relocs_exact : (k s : ℕ) (l : List Op) → Narrow l → Here b xs s l → differs k (wide_from b s (slots_of l)) (relocations s l) ≡ Ok tt
   unfolding slots_of relocations wide_from differs
   relocs_exact k s [] n h = refl
   relocs_exact k s (plain i ∷ l) n h = let p = after_plain b xs s i l n.0 h in rw (h.begins, p.0) (relocs_exact k (suc s) l n.1 p.1)

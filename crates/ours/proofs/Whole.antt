@@ -28,6 +28,7 @@ use Rattle.ours.proofs.Standing.{Narrow, Here, relocs_exact}
 use Rattle.ours.proofs.Pieces.{Kept, Keeps}
 use Rattle.ours.proofs.Steps.{slim, made, keeps_move}
 use Rattle.ours.proofs.Blocks.{split}
+use Rattle.std.specs.Prelude.{Ok}
 
 -- slot 0: R6 = R1
 abbrev pub first : Insn
@@ -68,7 +69,7 @@ module _ (xs : List Start) (l : List Op) where
   pub length_right : 0 < slots_of l → slots_of l ≤ 131072 → length_ok code ≡ true
   length_right h r = let n = insns_count xs 0 l in length_fine (insns xs 0 l) (omega arith) (omega arith)
 
-  pub judged_right : 0 < slots_of l → slots_of l ≤ 131072 → Narrow l → Kept code 0 (slots_of l) → judged code (relocations 0 l) ≡ Ss.Fine
+  pub judged_right : 0 < slots_of l → slots_of l ≤ 131072 → Narrow l → Kept code 0 (slots_of l) → judged code (relocations 0 l) ≡ Ok tt
   unfolding listed wide_offsets
   judged_right h r n k =
       fine_judged code (relocations 0 l)

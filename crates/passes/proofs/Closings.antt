@@ -11,13 +11,13 @@ use Rattle.record.specs.Frame.{next_at}
 use Rattle.recordparts.specs.Terminator.{terminator_in}
 use Rattle.unitfile.specs.Unit.{BasicBlock, parse, read_unit}
 use Rattle.unitfile.specs.declared.Found.{Found}
-use Rattle.unitfile.specs.declared.ReadUnit.TheVariants as U
 use Rattle.survey.specs.Surveyed.{endings, blocks_of}
 use Rattle.survey.proofs.Bounds.{blocks_count}
 use Rattle.survey.proofs.Flat.{endings_count}
 use Rattle.survey.specs.Standing.{Standing}
 use Rattle.survey.proofs.Standing.{standing, standing_head, standing_tail}
 use Rattle.passes.specs.Notes.{closings_at, EndsAt}
+use Rattle.std.specs.Prelude.{Ok}
 
 unfoldable pub closings : List BasicBlock → List Terminator
 closings [] = []
@@ -41,7 +41,7 @@ module _ (b : List ℕ) where
       rw (first, rest)
 
   -- where a unit was read whole, they are those of its blocks
-  pub closings_at_lem : (found : Found) (es : List ℕ) → read_unit b ≡ U.Unit found → EndsAt b es → closings_at b es 0 found.blocks ≡ closings (blocks_of (parse b))
+  pub closings_at_lem : (found : Found) (es : List ℕ) → read_unit b ≡ Ok found → EndsAt b es → closings_at b es 0 found.blocks ≡ closings (blocks_of (parse b))
   closings_at_lem found es e ends =
       let bs = blocks_of (parse b) in
       let n = endings_count bs in

@@ -29,8 +29,9 @@ use Rattle.layout.proofs.Patches.{patched, jumps_first, or_lands, landing_append
 use Rattle.passes.specs.Notes.{count_of, first_target, second_target, counts_of, pairs_of}
 use Rattle.passes.specs.Tables.{Tables, Endings, unit_landing}
 use Rattle.jumps.specs.Landed.{marked, landed_of, or_next, landed_by, landed_at, landed_from}
-use Rattle.jumps.specs.declared.Landed.{Landed}
+use Rattle.jumps.specs.declared.Astray.{Astray, Astray}
 use Rattle.passes.proofs.Kept.{fine_both}
+use Rattle.std.specs.Prelude.{Result, ⊤}
 
 -- ---- a block's jumps, by its terminator
 
@@ -115,7 +116,7 @@ module _ {c : Context} {e : ℕ → Bool} {all edges endings counts named number
           second = record { name = w.name 1 (omega arith); slot = rw (w.number 1 (omega arith)) (found (second_target b.terminator)) };
         }
 
-by_mark : (xs : List Start) (t : Bool) (a r : Landed) (ps js : List Jump) → a ≡ landed_of (landing xs ps) → r ≡ landed_of (landing xs js) → pick t (or_next a r) r ≡ landed_of (landing xs (pick t ps [] ++ js))
+by_mark : (xs : List Start) (t : Bool) (a r : Result ⊤ Astray) (ps js : List Jump) → a ≡ landed_of (landing xs ps) → r ≡ landed_of (landing xs js) → pick t (or_next a r) r ≡ landed_of (landing xs (pick t ps [] ++ js))
 by_mark xs true a r ps js p q = rw (p, q, landing_append) (sym (landed_or (landing xs ps) (landing xs js)))
 by_mark xs false a r ps js p q = q
 

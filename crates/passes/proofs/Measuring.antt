@@ -12,7 +12,6 @@ use Rattle.wire.specs.Pick.{pick}
 use Rattle.record.specs.Frame.{next_at}
 use Rattle.unitfile.specs.Unit.{BasicBlock, parse, read_unit}
 use Rattle.unitfile.specs.declared.Found.{Found}
-use Rattle.unitfile.specs.declared.ReadUnit.TheVariants as U
 use Rattle.unitfile.proofs.Units.{unit_of}
 use Rattle.survey.specs.Surveyed.{endings, blocks_of}
 use Rattle.survey.proofs.Bounds.{blocks_count}
@@ -27,11 +26,11 @@ use Rattle.layout.specs.Inner.{keep_by, block_by, scratch_by, edges, maps_of}
 use Rattle.layout.proofs.Laid.{nothing_then}
 use Rattle.passes.specs.Notes.{EndsAt}
 use Rattle.passes.specs.Tables.{size_of, Measured}
-use Rattle.passes.specs.declared.Size.{Size}
-use Rattle.passes.specs.declared.Size.TheVariants as S
 use Rattle.passes.specs.Rows.{BlockIn, SomeBlock, BlockSized, BlockTakes}
 use Rattle.passes.proofs.Celled.{BlocksCelled, block_celled, blocks_celled}
 use Rattle.passes.proofs.Sizing.{within, plus, plus_laid, plus_refused, plus_nothing}
+use Rattle.std.specs.Prelude.{Err, Ok, Result}
+use Rattle.wire.proofs.Pairs.{ok_parts}
 
 -- ---- the first of the blocks that are kept, and the others
 
@@ -43,9 +42,9 @@ first_kept c e k j b bs = go (e k)
     go true = refl
     go false = sym (nothing_then _)
 
-slots_are : (x : Laid) (n k : ℕ) → S.Slots n k ≡ size_of x → slots x ≡ n
+slots_are : (x : Laid) (n k : ℕ) → Ok (n, k) ≡ size_of x → slots x ≡ n
 unfolding size_of slots ops
-slots_are (laid a) n k e = cc
+slots_are (laid a) n k e = sym (ok_parts e).0
 slots_are (refused_at p r) n k e = let z : ◌≡◌ {A = ℕ} 0 1 = cc in absurd (omega arith)
 
 first_slot : (x : Laid) → plus 1 0 x ≡ size_of (at 0 (move 6 1) then x)
@@ -107,7 +106,7 @@ pub record Measuring (b : List ℕ) (c : Context) (e : ℕ → Bool) (es ls₁ l
   pub short : place ≤ length b
   pub long : length ls ≡ length ls₁
 
-pub start : (b : List ℕ) (found : Found) (c : Context) (e : ℕ → Bool) (es ls : List ℕ) → read_unit b ≡ U.Unit found → EndsAt b es → BlocksCelled c.frame (blocks_of (parse b)) → Measuring b c e es ls ls found.blocks 0 found.body 1 0
+pub start : (b : List ℕ) (found : Found) (c : Context) (e : ℕ → Bool) (es ls : List ℕ) → read_unit b ≡ Ok found → EndsAt b es → BlocksCelled c.frame (blocks_of (parse b)) → Measuring b c e es ls ls found.blocks 0 found.body 1 0
 unfolding unit_ops
 start b found c e es ls h ends cells =
     let bs = blocks_of (parse b) in
@@ -167,7 +166,7 @@ module _ {b : List ℕ} {c : Context} {e : ℕ → Bool} {es ls₁ ls : List ℕ
     pub inside : (place + 8 ≤ get_or es k 0) × (next_at b (get_or es k 0) ≤ length b)
     inside = (subst (λ (end : ℕ). place + 8 ≤ end) ending_is head_at.within, subst (λ (end : ℕ). next_at b end ≤ length b) ending_is head_at.after)
 
-    module _ {r : Size} (z : BlockTakes c b (e k) (place + 8) (get_or es k 0) r) where
+    module _ {r : Result (ℕ × ℕ) (ℕ × Reason)} (z : BlockTakes c b (e k) (place + 8) (get_or es k 0) r) where
       took : BlockSized c (e k) (place + 8) (get_or es k 0) first.block r
       took = z.each first.block block_in
 
@@ -175,16 +174,16 @@ module _ {b : List ℕ} {c : Context} {e : ℕ → Bool} {es ls₁ ls : List ℕ
       size_here = ap (plus s m) (sym (first_kept c e k g.ring first.block first.others)) ∙ ap (λ (bs : List BasicBlock). plus s m (blocks c g.ring (keep_by e k bs))) (sym first.are) ∙ g.size
 
       -- what the block adds still fits
-      pub fits : {x y : ℕ} → r ≡ S.Slots x y → (4 * (s + x) ≤ 13 * next_at b (get_or es k 0) + 4) × (4 * (m + y) ≤ next_at b (get_or es k 0))
+      pub fits : {x y : ℕ} → r ≡ Ok (x, y) → (4 * (s + x) ≤ 13 * next_at b (get_or es k 0) + 4) × (4 * (m + y) ≤ next_at b (get_or es k 0))
       unfolding next_at
       fits {x} {y} q = let o = took.few x y q in (omega (arith, g.slots, o.0), omega (arith, g.relocs, o.1))
 
-      pub on_block : {x y : ℕ} → r ≡ S.Slots x y → Measuring b c e es ls₁ (set ls (k + 1) (s + x)) n (k + 1) (next_at b (get_or es k 0)) (s + x) (m + y)
+      pub on_block : {x y : ℕ} → r ≡ Ok (x, y) → Measuring b c e es ls₁ (set ls (k + 1) (s + x)) n (k + 1) (next_at b (get_or es k 0)) (s + x) (m + y)
       unfolding later endings
       on_block {x} {y} q =
           let j = scratch_by (e k) g.ring first.block in
           let o = fits q in
-          let same : S.Slots x y ≡ size_of (block_by c (e k) g.ring first.block) = sym q ∙ took.size g.ring in
+          let same : Ok (x, y) ≡ size_of (block_by c (e k) g.ring first.block) = sym q ∙ took.size g.ring in
           let put : later c e k g.ring s g.left ≡ (s + x) ∷ later c e (suc k) j (s + x) first.others =
           ap (later c e k g.ring s) first.are
           ∙ ap (λ (v : ℕ). edges c e (suc k) j (s + v) first.others) (slots_are _ x y same)
@@ -204,7 +203,7 @@ module _ {b : List ℕ} {c : Context} {e : ℕ → Bool} {es ls₁ ls : List ℕ
             long = length-set ls (suc k) (s + x) ∙ g.long;
           })
 
-      pub on_refusal : {ls₀ : List ℕ} {at : ℕ} {reason : Reason} → r ≡ S.Refused at reason → Measured c e (blocks_of (parse b)) ls₀ (S.Refused at reason) ls
+      pub on_refusal : {ls₀ : List ℕ} {at : ℕ} {reason : Reason} → r ≡ Err (at, reason) → Measured c e (blocks_of (parse b)) ls₀ (Err (at, reason)) ls
       unfolding size_of
       on_refusal {ls₀} {at} {reason} q =
           let is = sym (plus_refused s m _ _ at reason (sym q ∙ took.size g.ring)) ∙ size_here in
@@ -215,7 +214,7 @@ module _ {b : List ℕ} {c : Context} {e : ℕ → Bool} {es ls₁ ls : List ℕ
           }
 
   -- the first edge was put before the blocks
-  pub at_end : (ls₀ : List ℕ) → ls₁ ≡ set ls₀ 0 1 → n ≤ k → length b ≤ 262144 → Measured c e (blocks_of (parse b)) ls₀ (S.Slots s m) ls
+  pub at_end : (ls₀ : List ℕ) → ls₁ ≡ set ls₀ 0 1 → n ≤ k → length b ≤ 262144 → Measured c e (blocks_of (parse b)) ls₀ (Ok (s, m)) ls
   unfolding keep_by blocks later
   at_end ls₀ f h short =
       let none = none_left g.left (omega (arith, g.count)) in

@@ -28,9 +28,11 @@ use Rattle.lower.specs.Instruction.{opcode, instruction, scratch_after}
 use Rattle.lower.specs.Payload.{operands_of, instruction_in, scratch_in}
 use Rattle.lower.specs.Held.{held}
 use Rattle.lower.specs.declared.Emitted.{Emitted}
+use Rattle.lower.specs.declared.Reason.{Reason}
+use Rattle.std.specs.Prelude.{Result}
 use Rattle.layout.proofs.Tidy.{Tidy, tidy_opcode}
 use Rattle.passes.specs.Inner.{context_of, condition_in}
-use Rattle.passes.specs.Places.{payload_at, instruction_by, ring_on, ring_by}
+use Rattle.passes.specs.Places.{map_taken, payload_at, instruction_by, ring_on, ring_by}
 use Rattle.wire.proofs.Part.{byte_drop, unsigned_drop, signed_drop, unsigned_first}
 
 -- the payload as the code lends it: the part from there to the unit's end
@@ -129,6 +131,6 @@ unfolding condition_in instruction_by
 asked_is vs hs ms j p e = ap (λ (t : Bool). instruction_in (frame_by vs hs) j t p) e ∙ asked_by (frame_by vs hs) j _ p (eqb (byte_at p 4) 7) refl
 
 -- the scratch position, by what the lowering told
-pub ring_is : (vs hs ms : List ℕ) (j : ℕ) (p : List ℕ) {t : Bool} {e : Emitted} → t ≡ condition_in (context_of vs hs ms) p → e ≡ held (instruction_in (frame_by vs hs) j t p) → ring_on e.map j (scratch_in j p) ≡ ring_by (context_of vs hs ms) j p
+pub ring_is : (vs hs ms : List ℕ) (j : ℕ) (p : List ℕ) {t : Bool} {e : Result Emitted Reason} → t ≡ condition_in (context_of vs hs ms) p → e ≡ held (instruction_in (frame_by vs hs) j t p) → ring_on (map_taken e) j (scratch_in j p) ≡ ring_by (context_of vs hs ms) j p
 unfolding ring_by
-ring_is vs hs ms j p asked told = ap (λ (x : Emitted). ring_on x.map j (scratch_in j p)) (told ∙ ap held (asked_is vs hs ms j p asked))
+ring_is vs hs ms j p asked told = ap (λ (x : Result Emitted Reason). ring_on (map_taken x) j (scratch_in j p)) (told ∙ ap held (asked_is vs hs ms j p asked))

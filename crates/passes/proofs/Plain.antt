@@ -7,8 +7,8 @@ use lib.ListN.{length}
 use Rattle.insn.specs.declared.Insn.{Insn}
 use Rattle.lower.specs.Op.{Op, plain, map, ja, jne, slots_of}
 use Rattle.lower.specs.Held.{map_in}
-use Rattle.lower.specs.declared.MapUse.TheVariants as M
 use Rattle.layout.specs.Inner.{plain_ops, maps_of}
+use Rattle.std.specs.Prelude.{None}
 
 pub plain_slots : (is : List Insn) → slots_of (plain_ops is) ≡ length is
 unfolding slots_of plain_ops
@@ -20,7 +20,7 @@ unfolding maps_of plain_ops
 plain_maps [] = refl
 plain_maps (i ∷ is) = plain_maps is
 
-pub plain_map : (is : List Insn) → map_in (plain_ops is) ≡ M.Nothing
+pub plain_map : (is : List Insn) → map_in (plain_ops is) ≡ None
 unfolding map_in plain_ops
 plain_map [] = refl
 plain_map (i ∷ is) = plain_map is

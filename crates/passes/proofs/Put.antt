@@ -24,7 +24,6 @@ use Rattle.opcode.proofs.Opcodes.{both_true}
 use Rattle.lower.specs.Op.{Op, plain, ja, jne, slots_of, Lowered, becomes, refused}
 use Rattle.lower.specs.Step.{map_ops}
 use Rattle.lower.specs.Held.{map_in, held}
-use Rattle.lower.specs.declared.MapUse.TheVariants as U
 use Rattle.lower.specs.Put.{wide_insn, zero_insn, insns_in, put_at, put_lowered}
 use Rattle.lower.specs.declared.Emitted.{Emitted}
 use Rattle.layout.specs.Layout.{at, ops}
@@ -37,6 +36,9 @@ use Rattle.passes.specs.Tables.{relocs_by}
 use Rattle.passes.specs.Put.{insns_to, jump_of, reaches, relocations_by, RoomAt, Relocates, Puts}
 use Rattle.passes.proofs.Lists.{sets_append}
 use Rattle.passes.proofs.Plain.{plain_slots, plain_maps, plain_map}
+use Rattle.lower.specs.declared.Reason.{Reason}
+use Rattle.std.specs.Prelude.{Err, MatchResult, None, Ok, Some}
+use Rattle.std.proofs.lemmas.Result.{MatchResult-at_ok, MatchResult-at_err}
 
 -- ---- instructions
 
@@ -88,32 +90,40 @@ pub record Told (xs : List Start) (s : ℕ) (l : List Op) (e : Emitted) : Type 0
   pub count : length (insns_in l) ≡ slots_of l
 
 module _ (xs : List Start) (s place : ℕ) where
-  told_tidy : {x : Lowered} → Tidy 11 x → Told xs s (ops (at place x)) (held x)
+  told_tidy : {x : Lowered} → Tidy 11 x → MatchResult (held x) (λ e. Told xs s (ops (at place x)) e) (λ r. x ≡ refused r)
   unfolding held map_in at ops map_ops slots_of maps_of relocs_by relocations_by relocations insns_in insns
-  told_tidy (Tidy.some U.Nothing is h) = record {
+  told_tidy (Tidy.some None is h) = record {
     slots = refl;
     maps = rw (plain_map is) (sym (plain_maps is));
     relocs = rw (plain_map is) (sym (plain_relocations s is));
     code = plain_in is ∙ sym (plain_insns xs s is);
     count = ap length (plain_in is) ∙ sym (plain_slots is);
   }
-  told_tidy (Tidy.some (U.Map m) is h) = record {
+  told_tidy (Tidy.some (Some m) is h) = record {
     slots = refl;
     maps = ap suc (sym (plain_maps is));
     relocs = ap (λ (l : List ℕ). bytes_before s ∷ m ∷ l) (sym (plain_relocations (s + 2) is));
     code = ap (λ (l : List Insn). wide_insn ∷ zero_insn ∷ l) (plain_in is ∙ sym (plain_insns xs (s + 2) is));
     count = ap (λ (n : ℕ). suc (suc n)) (ap length (plain_in is) ∙ sym (plain_slots is));
   }
-  told_tidy (Tidy.none r) = record { slots = refl; maps = refl; relocs = refl; code = refl; count = refl }
+  told_tidy (Tidy.none r) = refl
 
   put_lowered_lem : (x : Lowered) (cs : List ℕ) → put_lowered cs (8 * s) x ≡ put_at cs (8 * s) (insns_in (ops (at place x)))
   unfolding put_lowered at ops insns_in put_at
   put_lowered_lem (becomes l) cs = refl
   put_lowered_lem (refused r) cs = refl
 
-  module _ {x : Lowered} {e : Emitted} (tidy : Tidy 11 x) (is : e ≡ held x) where
+  module _ {x : Lowered} {r : Reason} (tidy : Tidy 11 x) (is : Err r ≡ held x) where
+    -- a refused one puts nothing
+    pub puts_nothing : {t : ℕ} {cs rs cs' : List ℕ} → cs' ≡ put_lowered cs (8 * s) x → Puts (insns xs) (ops (at place x)) s t cs rs s t cs' rs
+    unfolding put_lowered at ops slots_of maps_of insns relocations code_bytes
+    puts_nothing f =
+        let e = MatchResult-at_err (λ y. Told xs s (ops (at place x)) y) (λ q. x ≡ refused q) r (sym is) (told_tidy tidy) in
+        rw e (record { slot = omega arith; reloc = omega arith; code = rw e at f; relocs = refl })
+
+  module _ {x : Lowered} {e : Emitted} (tidy : Tidy 11 x) (is : Ok e ≡ held x) where
     told : Told xs s (ops (at place x)) e
-    told = subst (Told xs s (ops (at place x))) (sym is) (told_tidy tidy)
+    told = MatchResult-at_ok (λ y. Told xs s (ops (at place x)) y) (λ q. x ≡ refused q) e (sym is) (told_tidy tidy)
 
     pub told_room : {t n m : ℕ} → RoomAt (ops (at place x)) s t n m → (s + e.slots ≤ 851969) × (t + 2 * relocs_by e.map ≤ m)
     told_room r = (omega (arith, r.few, told.slots), omega (arith, r.relocs, told.maps))

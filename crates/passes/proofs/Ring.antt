@@ -12,18 +12,17 @@ use Rattle.lower.specs.Op.{Op, plain, map, ja, jne, Lowered, becomes, refused, �
 use Rattle.lower.specs.Operand.{map_address}
 use Rattle.lower.specs.Instruction.{on_first, on_two, opcode, after_first, after_two, scratch_by}
 use Rattle.lower.specs.Held.{map_in, held}
-use Rattle.lower.specs.declared.MapUse.{MapUse}
-use Rattle.lower.specs.declared.MapUse.TheVariants as M
 use Rattle.layout.specs.Layout.{at}
 use Rattle.layout.proofs.Laid.{Fine}
-use Rattle.passes.specs.Places.{ring_on}
+use Rattle.passes.specs.Places.{map_taken, ring_on}
+use Rattle.std.specs.Prelude.{None, Option, Some}
 
 -- ---- what begins with the load of a map's address
 
 abbrev Loads : ℕ → Lowered → Type 0
-Loads m x = (l : List Op) → x ≡ becomes l → map_in l ≡ M.Map m
+Loads m x = (l : List Op) → x ≡ becomes l → map_in l ≡ Some m
 
-map_append : (m : ℕ) (a b : List Op) → map_in a ≡ M.Map m → map_in (a ++ b) ≡ M.Map m
+map_append : (m : ℕ) (a b : List Op) → map_in a ≡ Some m → map_in (a ++ b) ≡ Some m
 unfolding map_in
 map_append m [] b e = let z : ◌≡◌ {A = ℕ} 0 1 = cc in absurd (omega arith)
 map_append m (map n ∷ a) b e = e
@@ -48,12 +47,12 @@ loads_map m l e =
 
 -- ---- the ring
 
-stays : (m : MapUse) (j : ℕ) → ring_on m j j ≡ j
+stays : (m : Option ℕ) (j : ℕ) → ring_on m j j ≡ j
 unfolding ring_on
-stays M.Nothing j = refl
-stays (M.Map m) j = refl
+stays None j = refl
+stays (Some m) j = refl
 
-goes : {m : MapUse} {n : ℕ} (j k : ℕ) → m ≡ M.Map n → ring_on m j k ≡ k
+goes : {m : Option ℕ} {n : ℕ} (j k : ℕ) → m ≡ Some n → ring_on m j k ≡ k
 unfolding ring_on
 goes j k e = rw e
 
@@ -81,12 +80,12 @@ module _ (f : Frame) (j : ℕ) (t : Bool) (result : ℕ) where
   ring_opcode (C.RingBufSubmit m) os l e = stays (map_in l) j
 
 -- what is not refused
-ring_fine : (place j k : ℕ) (x : Lowered) → Fine (at place x) → ((l : List Op) → x ≡ becomes l → ring_on (map_in l) j k ≡ k) → ring_on (held x).map j k ≡ k
-unfolding held at
+ring_fine : (place j k : ℕ) (x : Lowered) → Fine (at place x) → ((l : List Op) → x ≡ becomes l → ring_on (map_in l) j k ≡ k) → ring_on (map_taken (held x)) j k ≡ k
+unfolding held map_taken at
 ring_fine place j k (becomes l) f h = h l refl
 ring_fine place j k (refused r) f h =
     let e = f.is in
     let z : ◌≡◌ {A = ℕ} 0 1 = cc in absurd (omega arith)
 
-pub ring_after : (f : Frame) (j : ℕ) (t : Bool) (result place : ℕ) (o : Opcode) (os : List Operand) → Fine (at place (opcode f j t result o os)) → ring_on (held (opcode f j t result o os)).map j (scratch_by j o os) ≡ scratch_by j o os
+pub ring_after : (f : Frame) (j : ℕ) (t : Bool) (result place : ℕ) (o : Opcode) (os : List Operand) → Fine (at place (opcode f j t result o os)) → ring_on (map_taken (held (opcode f j t result o os))) j (scratch_by j o os) ≡ scratch_by j o os
 ring_after f j t result place o os h = ring_fine place j _ _ h (ring_opcode f j t result o os)

@@ -36,7 +36,6 @@ use Rattle.lower.specs.Step.{map_ops}
 use Rattle.lower.specs.Held.{map_in, held}
 use Rattle.lower.specs.declared.Reason.{Reason}
 use Rattle.lower.specs.declared.Reason.TheVariants as Re
-use Rattle.lower.specs.declared.MapUse.TheVariants as M
 use Rattle.size.specs.Size.{every_cell, size_in}
 use Rattle.size.specs.Celled.{Celled}
 use Rattle.size.proofs.Cells.{same_size_in}
@@ -49,34 +48,33 @@ use Rattle.survey.proofs.Standing.{First, chain_within, chain_empty, chain_first
 use Rattle.passes.specs.Inner.{condition_in}
 use Rattle.passes.specs.Places.{payload_at}
 use Rattle.passes.specs.Rows.{RowCelled, EndCelled, BlockCelled, Row, RowSized, BlockIn, SomeBlock, BlockSized, BlockTakes}
-use Rattle.passes.specs.Tables.{size_of, size_by, size_on, relocs_by, load_size, Sized}
-use Rattle.passes.specs.declared.Size.{Size}
-use Rattle.passes.specs.declared.Size.TheVariants as S
+use Rattle.passes.specs.Tables.{size_of, size_by, relocs_by, load_size, Sized}
 use Rattle.passes.proofs.Celled.{first_celled, others_celled}
 use Rattle.passes.proofs.Payload.{terminator_drop, result_is, operands_are, instruction_is, same_opcode, tidy_payload}
 use Rattle.passes.proofs.Plain.{plain_slots, plain_maps, plain_map, maps_append}
+use Rattle.std.specs.Prelude.{Err, None, Ok, Result, Some}
+use Rattle.wire.proofs.Pairs.{ok_parts}
 
 -- ---- what one record takes
 
-pub within : {x y a b : ℕ} → x ≤ a → y ≤ b → (n m : ℕ) → S.Slots x y ≡ S.Slots n m → (n ≤ a) × (m ≤ b)
+pub within : {x y a b : ℕ} → x ≤ a → y ≤ b → (n m : ℕ) → ◌≡◌ {A = Result (ℕ × ℕ) (ℕ × Reason)} (Ok (x, y)) (Ok (n, m)) → (n ≤ a) × (m ≤ b)
 within {x} {y} {a} {b} p q n m e =
-    let h : x ≡ n = cc in
-    let k : y ≡ m = cc in
-    (omega arith, omega arith)
+    let same = ok_parts e in
+    (omega (arith, same.0), omega (arith, same.1))
 
-sized : {l : Laid} {x y : ℕ} → x ≤ 13 → y ≤ 1 → S.Slots x y ≡ size_of l → Sized l (S.Slots x y)
+sized : {l : Laid} {x y : ℕ} → x ≤ 13 → y ≤ 1 → Ok (x, y) ≡ size_of l → Sized l (Ok (x, y))
 sized p q e = record { size = e; few = within p q }
 
-sized_refused : {l : Laid} {place : ℕ} {r : Reason} → S.Refused place r ≡ size_of l → Sized l (S.Refused place r)
+sized_refused : {l : Laid} {place : ℕ} {r : Reason} → Err (place, r) ≡ size_of l → Sized l (Err (place, r))
 sized_refused e = record { size = e; few = λ n m h. let z : ◌≡◌ {A = ℕ} 0 1 = cc in absurd (omega arith) }
 
 sized_tidy : (place : ℕ) {x : Lowered} → Tidy 11 x → Sized (at place x) (size_by place (held x))
-unfolding held map_in size_by size_on relocs_by at map_ops size_of slots_of maps_of
-sized_tidy place (Tidy.some M.Nothing is h) = rw (plain_map is) (sized (omega (arith, plain_slots is)) (omega arith) (rw (plain_maps is)))
-sized_tidy place (Tidy.some (M.Map m) is h) = sized (omega (arith, plain_slots is)) (omega arith) (rw (plain_maps is))
+unfolding held map_in size_by relocs_by at map_ops size_of slots_of maps_of
+sized_tidy place (Tidy.some None is h) = rw (plain_map is) (sized (omega (arith, plain_slots is)) (omega arith) (rw (plain_maps is)))
+sized_tidy place (Tidy.some (Some m) is h) = sized (omega (arith, plain_slots is)) (omega arith) (rw (plain_maps is))
 sized_tidy place (Tidy.none r) = sized_refused refl
 
-sized_held : (place : ℕ) {x : Lowered} {r : Size} → Tidy 11 x → r ≡ size_by place (held x) → Sized (at place x) r
+sized_held : (place : ℕ) {x : Lowered} {r : Result (ℕ × ℕ) (ℕ × Reason)} → Tidy 11 x → r ≡ size_by place (held x) → Sized (at place x) r
 sized_held place {x} t q = subst (Sized (at place x)) (sym q) (sized_tidy place t)
 
 -- ---- an instruction
@@ -97,7 +95,7 @@ module _ (c : Context) (b : List ℕ) (place : ℕ) (i : Instruction) (here : In
   cells_in : Celled c.frame (unsigned_at w32 p 0) (operands_of p)
   cells_in = rw (result_is b place i here, operands_are b place i here) cells
 
-  instruction_sized : (j : ℕ) {r : Size} → r ≡ size_by place (size_in (condition_in c p) p) → Sized (at place (instruction c.frame j (c.condition i.result) i)) r
+  instruction_sized : (j : ℕ) {r : Result (ℕ × ℕ) (ℕ × Reason)} → r ≡ size_by place (size_in (condition_in c p) p) → Sized (at place (instruction c.frame j (c.condition i.result) i)) r
   instruction_sized j {r} e =
       let t = c.condition (unsigned_at w32 p 0) in
       let h = same_size_in c.frame j t p cells_in in
@@ -110,7 +108,7 @@ module _ (c : Context) (b : List ℕ) (place : ℕ) (i : Instruction) (here : In
 
 -- by its payload's form
 module _ (place : ℕ) (p : List ℕ) where
-  abbrev Here : Size → Type 0
+  abbrev Here : Result (ℕ × ℕ) (ℕ × Reason) → Type 0
   Here = Sized (at place (terminator every_cell (terminator_in p 0)))
 
   loads : (o : Operand) (n : ℕ) {l : Laid} → n ≤ 13 → (size_of l ≡ load_size place o n) → Sized l (load_size place o n)
@@ -118,7 +116,7 @@ module _ (place : ℕ) (p : List ℕ) where
   loads (O.Var v) n h e = sized h (omega arith) (sym e)
   loads (O.Immediate z) n {l} h e = go (fits32 z) (sym e)
     where
-      go : (t : Bool) → pick t (S.Slots n 0) (S.Refused place (Re.Immediate z)) ≡ size_of l → Sized l (pick t (S.Slots n 0) (S.Refused place (Re.Immediate z)))
+      go : (t : Bool) → pick t (Ok (n, 0)) (Err (place, Re.Immediate z)) ≡ size_of l → Sized l (pick t (Ok (n, 0)) (Err (place, Re.Immediate z)))
       go true e = sized h (omega arith) e
       go false e = sized_refused e
 
@@ -127,7 +125,7 @@ module _ (place : ℕ) (p : List ℕ) where
   returns (O.Var v) = refl
   returns (O.Immediate z) = go (fits32 z)
     where
-      go : (t : Bool) → size_of (at place (pick t (insn MovImm 0 0 (pos 0) z) (refused (Re.Immediate z)) ▸ insn Exit 0 0 (pos 0) (pos 0))) ≡ pick t (S.Slots 2 0) (S.Refused place (Re.Immediate z))
+      go : (t : Bool) → size_of (at place (pick t (insn MovImm 0 0 (pos 0) z) (refused (Re.Immediate z)) ▸ insn Exit 0 0 (pos 0) (pos 0))) ≡ pick t (Ok (2, 0)) (Err (place, Re.Immediate z))
       go true = refl
       go false = refl
 
@@ -136,19 +134,19 @@ module _ (place : ℕ) (p : List ℕ) where
   branches (O.Var v) to other = refl
   branches (O.Immediate z) to other = go (fits32 z)
     where
-      go : (t : Bool) → size_of (at place (pick t (insn MovImm 0 0 (pos 0) z) (refused (Re.Immediate z)) ▸ becomes (jne to ∷ ja other ∷ []))) ≡ pick t (S.Slots 3 0) (S.Refused place (Re.Immediate z))
+      go : (t : Bool) → size_of (at place (pick t (insn MovImm 0 0 (pos 0) z) (refused (Re.Immediate z)) ▸ becomes (jne to ∷ ja other ∷ []))) ≡ pick t (Ok (3, 0)) (Err (place, Re.Immediate z))
       go true = refl
       go false = refl
 
-  pub return_sized : {r : Size} → byte_at p 0 ≡ 0 → r ≡ load_size place (operand_in p 1) 2 → Here r
+  pub return_sized : {r : Result (ℕ × ℕ) (ℕ × Reason)} → byte_at p 0 ≡ 0 → r ≡ load_size place (operand_in p 1) 2 → Here r
   unfolding terminator_in
   return_sized h e = rw (e, eq-eqb (byte_at p 0) 0 h) (loads (operand_in p 1) 2 (omega arith) (returns (operand_in p 1)))
 
-  pub jump_sized : byte_at p 0 ≡ 1 → Here (S.Slots 1 0)
+  pub jump_sized : byte_at p 0 ≡ 1 → Here (Ok (1, 0))
   unfolding terminator_in terminator at size_of slots_of maps_of
   jump_sized h = rw h (sized (omega arith) (omega arith) refl)
 
-  pub branch_sized : {r : Size} → (byte_at p 0 ≡ 0 → ⊥) → (byte_at p 0 ≡ 1 → ⊥) → r ≡ load_size place (operand_in p 1) 3 → Here r
+  pub branch_sized : {r : Result (ℕ × ℕ) (ℕ × Reason)} → (byte_at p 0 ≡ 0 → ⊥) → (byte_at p 0 ≡ 1 → ⊥) → r ≡ load_size place (operand_in p 1) 3 → Here r
   unfolding terminator_in
   branch_sized h k e = rw (e, ne_eqb (byte_at p 0) 0 h, ne_eqb (byte_at p 0) 1 k) (loads (operand_in p 1) 3 (omega arith) (branches (operand_in p 1) _ _))
 
@@ -161,22 +159,22 @@ same_end place f (T.Jump target) c = refl
 same_end place f (T.Branch (O.Var v) to other) c = rw (c.tested v to other refl).at
 same_end place f (T.Branch (O.Immediate z) to other) c = refl
 
-end_sized : (f : Frame) (b : List ℕ) (place : ℕ) (t : Terminator) {r : Size} → TerminatorAt b place t → EndCelled f t → Sized (at place (terminator every_cell (terminator_in (payload_at b place) 0))) r → Sized (at place (terminator f t)) r
+end_sized : (f : Frame) (b : List ℕ) (place : ℕ) (t : Terminator) {r : Result (ℕ × ℕ) (ℕ × Reason)} → TerminatorAt b place t → EndCelled f t → Sized (at place (terminator every_cell (terminator_in (payload_at b place) 0))) r → Sized (at place (terminator f t)) r
 end_sized f b place t {r} h c s =
     let q = subst (λ (x : Terminator). Sized (at place (terminator every_cell x)) r) (terminator_drop b (place + 4) ∙ h.value) s in
     record { size = q.size ∙ same_end place f t c; few = q.few }
 
 -- ---- slots and relocations, and those of what follows
 
-unfoldable pub plus : ℕ → ℕ → Laid → Size
-plus s m (laid l) = S.Slots (s + slots_of l) (m + maps_of l)
-plus s m (refused_at place r) = S.Refused place r
+unfoldable pub plus : ℕ → ℕ → Laid → Result (ℕ × ℕ) (ℕ × Reason)
+plus s m (laid l) = Ok (s + slots_of l, m + maps_of l)
+plus s m (refused_at place r) = Err (place, r)
 
-pub plus_laid : (s m : ℕ) (x y : Laid) (n k : ℕ) → S.Slots n k ≡ size_of x → plus s m (x then y) ≡ plus (s + n) (m + k) y
+pub plus_laid : (s m : ℕ) (x y : Laid) (n k : ℕ) → Ok (n, k) ≡ size_of x → plus s m (x then y) ≡ plus (s + n) (m + k) y
 unfolding plus size_of ◌then◌
 plus_laid s m (laid a) (laid b) n k e =
-    let p : n ≡ slots_of a = cc in
-    let q : k ≡ maps_of a = cc in
+    let p : n ≡ slots_of a = (ok_parts e).0 in
+    let q : k ≡ maps_of a = (ok_parts e).1 in
     let g : s + slots_of (a ++ b) ≡ s + n + slots_of b = omega (arith, slots_append a b) in
     let h : m + maps_of (a ++ b) ≡ m + k + maps_of b = omega (arith, maps_append a b) in
     rw (g, h)
@@ -184,28 +182,28 @@ plus_laid s m (laid a) (refused_at p r) n k e = refl
 plus_laid s m (refused_at p r) (laid b) n k e = let z : ◌≡◌ {A = ℕ} 0 1 = cc in absurd (omega arith)
 plus_laid s m (refused_at p r) (refused_at q t) n k e = let z : ◌≡◌ {A = ℕ} 0 1 = cc in absurd (omega arith)
 
-pub plus_refused : (s m : ℕ) (x y : Laid) (place : ℕ) (r : Reason) → S.Refused place r ≡ size_of x → plus s m (x then y) ≡ S.Refused place r
+pub plus_refused : (s m : ℕ) (x y : Laid) (place : ℕ) (r : Reason) → Err (place, r) ≡ size_of x → plus s m (x then y) ≡ Err (place, r)
 unfolding plus size_of ◌then◌
 plus_refused s m (laid a) y place r e = let z : ◌≡◌ {A = ℕ} 0 1 = cc in absurd (omega arith)
 plus_refused s m (refused_at p t) (laid b) place r e = sym e
 plus_refused s m (refused_at p t) (refused_at q u) place r e = sym e
 
-pub plus_nothing : (s m : ℕ) → S.Slots s m ≡ plus s m (laid [])
+pub plus_nothing : (s m : ℕ) → Ok (s, m) ≡ plus s m (laid [])
 unfolding plus slots_of maps_of
 plus_nothing s m =
     let g : s + 0 ≡ s = omega arith in
     let h : m + 0 ≡ m = omega arith in
     rw (g, h)
 
-laid_last : (s m : ℕ) (x : Laid) (n k : ℕ) → S.Slots n k ≡ size_of x → S.Slots (s + n) (m + k) ≡ plus s m x
+laid_last : (s m : ℕ) (x : Laid) (n k : ℕ) → Ok (n, k) ≡ size_of x → Ok (s + n, m + k) ≡ plus s m x
 unfolding plus size_of
 laid_last s m (laid l) n k e =
-    let p : n ≡ slots_of l = cc in
-    let q : k ≡ maps_of l = cc in
+    let p : n ≡ slots_of l = (ok_parts e).0 in
+    let q : k ≡ maps_of l = (ok_parts e).1 in
     rw (p, q)
 laid_last s m (refused_at p r) n k e = let z : ◌≡◌ {A = ℕ} 0 1 = cc in absurd (omega arith)
 
-refused_last : (s m : ℕ) (x : Laid) (place : ℕ) (r : Reason) → S.Refused place r ≡ size_of x → S.Refused place r ≡ plus s m x
+refused_last : (s m : ℕ) (x : Laid) (place : ℕ) (r : Reason) → Err (place, r) ≡ size_of x → Err (place, r) ≡ plus s m x
 unfolding plus size_of
 refused_last s m (laid l) place r e = let z : ◌≡◌ {A = ℕ} 0 1 = cc in absurd (omega arith)
 refused_last s m (refused_at p t) place r e = e
@@ -221,7 +219,7 @@ plus_zero (refused_at place r) = refl
 -- ---- a block's instructions
 
 -- with s slots and m relocations so far, these lead to the size r
-pub record Leads (c : Context) (is : List PlacedInstruction) (s m : ℕ) (r : Size) : Type 0 where
+pub record Leads (c : Context) (is : List PlacedInstruction) (s m : ℕ) (r : Result (ℕ × ℕ) (ℕ × Reason)) : Type 0 where
   pub ring : ℕ
   pub size : plus s m (instructions c ring is) ≡ r
 
@@ -259,14 +257,14 @@ module _ {c : Context} {b : List ℕ} {end first place s m : ℕ} (n : Sizing c 
     unfolding next_at
     goes_on = (omega arith, chain_within here.chain)
 
-    module _ {r : Size} (e : r ≡ size_by place (size_in (condition_in c (payload_at b place)) (payload_at b place))) where
+    module _ {r : Result (ℕ × ℕ) (ℕ × Reason)} (e : r ≡ size_by place (size_in (condition_in c (payload_at b place)) (payload_at b place))) where
       taken : (j : ℕ) → Sized (at place (instruction c.frame j (c.condition here.instruction.result) here.instruction)) r
       taken j = instruction_sized c b place here.instruction here.here (first_celled cells) j e
 
-      pub few : {x y : ℕ} → r ≡ S.Slots x y → (x ≤ 13) × (y ≤ 1)
+      pub few : {x y : ℕ} → r ≡ Ok (x, y) → (x ≤ 13) × (y ≤ 1)
       few {x} {y} q = (taken 0).few x y q
 
-      pub on_instruction : {x y : ℕ} → r ≡ S.Slots x y → Sizing c b end first (next_at b place) (s + x) (m + y)
+      pub on_instruction : {x y : ℕ} → r ≡ Ok (x, y) → Sizing c b end first (next_at b place) (s + x) (m + y)
       unfolding instructions
       on_instruction {x} {y} q =
           let o = few q in
@@ -284,7 +282,7 @@ module _ {c : Context} {b : List ℕ} {end first place s m : ℕ} (n : Sizing c 
             relocs = omega (arith, n.relocs);
           }
 
-      pub on_refusal : {at : ℕ} {reason : Reason} → r ≡ S.Refused at reason → RowSized c b end first (S.Refused at reason)
+      pub on_refusal : {at : ℕ} {reason : Reason} → r ≡ Err (at, reason) → RowSized c b end first (Err (at, reason))
       unfolding instructions
       on_refusal {at} {reason} q =
           record {
@@ -295,7 +293,7 @@ module _ {c : Context} {b : List ℕ} {end first place s m : ℕ} (n : Sizing c 
             few = λ x y z. let z : ◌≡◌ {A = ℕ} 0 1 = cc in absurd (omega arith);
           }
 
-  pub at_end : end ≤ place → RowSized c b end first (S.Slots s m)
+  pub at_end : end ≤ place → RowSized c b end first (Ok (s, m))
   unfolding instructions
   at_end h =
       let w = chain_within n.left.chain in
@@ -305,9 +303,8 @@ module _ {c : Context} {b : List ℕ} {end first place s m : ℕ} (n : Sizing c 
             let l = n.leads j in
             plus_nothing s m ∙ ap (λ (is : List PlacedInstruction). plus s m (instructions c l.ring is)) (sym (chain_empty n.left.chain h)) ∙ l.size;
         few = λ x y e.
-            let p : s ≡ x = cc in
-            let q : m ≡ y = cc in
-            (omega (arith, n.slots), omega (arith, n.relocs));
+            let same = ok_parts e in
+            (omega (arith, n.slots, same.0), omega (arith, n.relocs, same.1));
       }
 
 -- ---- a block
@@ -319,17 +316,17 @@ pub some_inside : {f : Frame} {b : List ℕ} {first end : ℕ} → SomeBlock f b
 some_inside w = omega (arith, w.stands.ends.whole)
 
 module _ {c : Context} {b : List ℕ} {first end : ℕ} (k : BasicBlock) (w : BlockIn c.frame b first end k) where
-  pub silent_sized : BlockSized c false first end k (S.Slots 0 0)
+  pub silent_sized : BlockSized c false first end k (Ok (0, 0))
   unfolding block_by size_of slots_of maps_of
   silent_sized =
       let l = chain_within w.chain in
-      record { size = λ j. refl; few = λ n m e. let p : 0 ≡ n = cc in let q : 0 ≡ m = cc in (omega arith, omega arith) }
+      record { size = λ j. refl; few = λ n m e. let same = ok_parts e in (omega (arith, same.0), omega (arith, same.1)) }
 
-  module _ {r : Size} (z : RowSized c b end first r) where
+  module _ {r : Result (ℕ × ℕ) (ℕ × Reason)} (z : RowSized c b end first r) where
     row_size : (j : ℕ) → r ≡ size_of (instructions c j k.instructions)
     row_size j = z.size j ∙ ap (λ (is : List PlacedInstruction). size_of (instructions c j is)) (chain_same z.row.chain w.chain)
 
-    pub row_refused : {place : ℕ} {reason : Reason} → r ≡ S.Refused place reason → BlockSized c true first end k (S.Refused place reason)
+    pub row_refused : {place : ℕ} {reason : Reason} → r ≡ Err (place, reason) → BlockSized c true first end k (Err (place, reason))
     unfolding block_by block
     row_refused {place} {reason} q =
         record {
@@ -337,17 +334,17 @@ module _ {c : Context} {b : List ℕ} {first end : ℕ} (k : BasicBlock) (w : Bl
           few = λ n m e. let z : ◌≡◌ {A = ℕ} 0 1 = cc in absurd (omega arith);
         }
 
-    module _ {u : Size} (y₁ : Sized (at end (terminator every_cell (terminator_in (payload_at b end) 0))) u) where
+    module _ {u : Result (ℕ × ℕ) (ℕ × Reason)} (y₁ : Sized (at end (terminator every_cell (terminator_in (payload_at b end) 0))) u) where
       last : Sized (at k.ending (terminator c.frame k.terminator)) u
       last = subst (λ (place : ℕ). Sized (at place (terminator c.frame k.terminator)) u) (sym w.ending) (end_sized c.frame b end k.terminator w.ends w.cells.end y₁)
 
-      both_size : {s m : ℕ} → r ≡ S.Slots s m → (j : ℕ) → plus s m (at k.ending (terminator c.frame k.terminator)) ≡ size_of (block c j k)
+      both_size : {s m : ℕ} → r ≡ Ok (s, m) → (j : ℕ) → plus s m (at k.ending (terminator c.frame k.terminator)) ≡ size_of (block c j k)
       unfolding block
       both_size {s} {m} q j =
           let e = sym (plus_laid 0 0 _ (at k.ending (terminator c.frame k.terminator)) s m (sym q ∙ row_size j)) ∙ plus_zero _ in
           rw (zero-add s, zero-add m) at e
 
-      pub end_refused : {s m place : ℕ} {reason : Reason} → r ≡ S.Slots s m → u ≡ S.Refused place reason → BlockSized c true first end k (S.Refused place reason)
+      pub end_refused : {s m place : ℕ} {reason : Reason} → r ≡ Ok (s, m) → u ≡ Err (place, reason) → BlockSized c true first end k (Err (place, reason))
       unfolding block_by
       end_refused {s} {m} {place} {reason} q p =
           record {
@@ -355,7 +352,7 @@ module _ {c : Context} {b : List ℕ} {first end : ℕ} (k : BasicBlock) (w : Bl
             few = λ n m e. let z : ◌≡◌ {A = ℕ} 0 1 = cc in absurd (omega arith);
           }
 
-      pub block_sized : {s m x y : ℕ} → r ≡ S.Slots s m → u ≡ S.Slots x y → BlockSized c true first end k (S.Slots (s + x) (m + y))
+      pub block_sized : {s m x y : ℕ} → r ≡ Ok (s, m) → u ≡ Ok (x, y) → BlockSized c true first end k (Ok (s + x, m + y))
       unfolding block_by
       block_sized {s} {m} {x} {y} q p =
           let before = z.few s m q in
@@ -363,7 +360,6 @@ module _ {c : Context} {b : List ℕ} {first end : ℕ} (k : BasicBlock) (w : Bl
           record {
             size = λ j. laid_last s m _ x y (sym p ∙ last.size) ∙ both_size q j;
             few = λ n o e.
-                let g : s + x ≡ n = cc in
-                let h : m + y ≡ o = cc in
-                (omega (arith, before.0, before.1, more.0, more.1), omega (arith, before.0, before.1, more.0, more.1));
+                let same = ok_parts e in
+                (omega (arith, same.0, before.0, before.1, more.0, more.1), omega (arith, same.1, before.0, before.1, more.0, more.1));
           }

@@ -14,7 +14,6 @@ use Rattle.unitfile.specs.Unit.{BasicBlock, parse}
 use Rattle.survey.specs.Collected.{all, collected}
 use Rattle.survey.specs.Surveyed as survey
 use Rattle.survey.specs.Surveyed.{blocks_of}
-use Rattle.survey.specs.declared.Survey.TheVariants as S
 use Rattle.survey.proofs.Answers.{unit_means}
 use Rattle.survey.proofs.Bounds.{few_blocks}
 use Rattle.survey.proofs.Flat.{ids_count}
@@ -32,6 +31,7 @@ use Rattle.unitfile.specs.declared.Found.{Found}
 use Rattle.jumps.specs.Landed.{marked}
 use Rattle.passes.specs.Notes.{count_of, first_target, second_target, counts_of, pairs_of, Noted}
 use Rattle.passes.specs.Stages.{Spacious, Surveyed, Linked}
+use Rattle.std.specs.Prelude.{Ok}
 
 -- ---- a list that stands at the front of another
 
@@ -53,7 +53,7 @@ pairs_length (b ∷ bs) = omega (arith, pairs_length bs)
 
 -- ---- after a survey
 
-module _ (b l : List ℕ) {found : Found} {n : ℕ} {vs : List ℕ} (answer : survey.surveyed b ≡ S.Unit found n) (variables : vs ≡ survey.surveyed_variables b l) (size : length l ≡ 56) where
+module _ (b l : List ℕ) {found : Found} {n : ℕ} {vs : List ℕ} (answer : survey.surveyed b ≡ Ok (found, n)) (variables : vs ≡ survey.surveyed_variables b l) (size : length l ≡ 56) where
   -- the variables stand in their list
   pub variables_inside : n ≤ length vs
   unfolding survey.surveyed_variables

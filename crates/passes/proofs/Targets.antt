@@ -19,8 +19,6 @@ use Rattle.insn.specs.declared.form.Form.{Form}
 use Rattle.insn.specs.declared.form.Form.TheVariants.{Exit}
 use Rattle.unitfile.specs.Unit.{BasicBlock}
 use Rattle.frame.specs.Cell.{Frame}
-use Rattle.frame.specs.declared.Cell.{Cell}
-use Rattle.frame.specs.declared.Cell.TheVariants.{At, Missing}
 use Rattle.flow.specs.Computed.{is_reached}
 use Rattle.flow.specs.Linked.{number_from}
 use Rattle.flow.proofs.Numbers.{Here, number_law}
@@ -40,6 +38,7 @@ use Rattle.layout.proofs.Located.{located}
 use Rattle.passes.specs.Notes.{first_target, second_target, pairs_of}
 use Rattle.passes.specs.Tables.{Tables}
 use Rattle.passes.specs.Put.{slot_to, insns_to, reaches, Written}
+use Rattle.std.specs.Prelude.{None, Option, Some}
 
 -- ---- jumps that land
 
@@ -90,10 +89,10 @@ one_pick : (t : Bool) {x y : Lowered} → One x → One y → One (pick t x y)
 one_pick true p q = p
 one_pick false p q = q
 
-one_cell : (v : ℕ) (x : Cell) (g : ℤ → Lowered) → ((z : ℤ) → One (g z)) → One (on_cell v x g)
+one_cell : (v : ℕ) (x : Option ℤ) (g : ℤ → Lowered) → ((z : ℤ) → One (g z)) → One (on_cell v x g)
 unfolding on_cell
-one_cell v (At z) g h = h z
-one_cell v Missing g h = One.none _
+one_cell v (Some z) g h = h z
+one_cell v None g h = One.none _
 
 one_load : (f : Frame) (r : ℕ) (o : Operand) → One (load f r o)
 unfolding load constant

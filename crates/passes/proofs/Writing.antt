@@ -14,7 +14,6 @@ use Rattle.insn.specs.declared.Insn.{Insn}
 use Rattle.record.specs.Frame.{next_at}
 use Rattle.unitfile.specs.Unit.{BasicBlock, parse, read_unit}
 use Rattle.unitfile.specs.declared.Found.{Found}
-use Rattle.unitfile.specs.declared.ReadUnit.TheVariants as U
 use Rattle.recordparts.specs.Terminator.{terminator_in}
 use Rattle.survey.specs.Surveyed as survey
 use Rattle.survey.specs.Surveyed.{blocks_of}
@@ -43,6 +42,8 @@ use Rattle.passes.proofs.Places.{places_first, places_none, end_ops_lem, instruc
 use Rattle.passes.proofs.Plain.{maps_append}
 use Rattle.passes.proofs.Put.{joined}
 use Rattle.passes.proofs.Targets.{landing_append, Leads, written_terminator, leads}
+use Rattle.lower.specs.declared.Reason.{Reason}
+use Rattle.std.specs.Prelude.{Ok, Result}
 
 -- ---- operations after operations
 
@@ -170,7 +171,7 @@ module _ (c : Context) (b : List ℕ) (j first end : ℕ) where
     unfolding block_ring
     ring_body e = rw on e
 
-    module _ {s t s' t' : ℕ} {cs rs cs' rs' : List ℕ} (p : (xs : List Start) → Puts (insns xs) body s t cs rs s' t' cs' rs') {u : Terminator} (x : Ending) (read : u ≡ terminator_in b (end + 4)) (lowers : ending_ops x ≡ terminator c.frame u) where
+    module _ {s t s' t' : ℕ} {cs rs cs' rs' : List ℕ} (p : (xs : List Start) → Puts (insns xs) body s t cs rs s' t' cs' rs') {u : Terminator} (x : Result Ending Reason) (read : u ≡ terminator_in b (end + 4)) (lowers : ending_ops x ≡ terminator c.frame u) where
       abbrev closes : List Op
       closes = ops (at 0 (ending_ops x))
 
@@ -313,10 +314,10 @@ take_most (suc n) [] = omega arith
 take_most (suc n) (x ∷ l) = let h = take_most n l in omega arith
 
 -- the places of its terminators stand in their list
-pub ends_room : (b : List ℕ) (found : Found) (es : List ℕ) → read_unit b ≡ U.Unit found → EndsAt b es → found.blocks ≤ length es
+pub ends_room : (b : List ℕ) (found : Found) (es : List ℕ) → read_unit b ≡ Ok found → EndsAt b es → found.blocks ≤ length es
 ends_room b found es read ends = omega (arith, take_most (length (blocks_of (parse b))) es, ap length ends, endings_count (blocks_of (parse b)), blocks_count b found read)
 
-module _ (b : List ℕ) (found : Found) (c : Context) (e : ℕ → Bool) (read : read_unit b ≡ U.Unit found) where
+module _ (b : List ℕ) (found : Found) (c : Context) (e : ℕ → Bool) (read : read_unit b ≡ Ok found) where
   abbrev bs : List BasicBlock
   bs = blocks_of (parse b)
 

@@ -1,5 +1,5 @@
 -- A block by the places of its records: what the bytes from a place to another become. No public promise names these.
-use Rattle.std.specs.Prelude.{Bool, List, [], ◌∷◌, ◌++◌, ℕ, zero, suc, ◌+◌, ◌-◌, ltb, drop}
+use Rattle.std.specs.Prelude.{Bool, List, [], ◌∷◌, ◌++◌, ℕ, zero, suc, ◌+◌, ◌-◌, ltb, drop, Err, None, Ok, Option, Result, Some}
 use Rattle.std.specs.Int.{w32}
 use Rattle.wire.specs.Le.{unsigned_at}
 use Rattle.wire.specs.Pick.{pick}
@@ -8,9 +8,9 @@ use Rattle.recordparts.specs.Terminator.{terminator_in}
 use Rattle.lower.specs.Op.{Op, Lowered, slots_of}
 use Rattle.lower.specs.Held.{held}
 use Rattle.lower.specs.Payload.{instruction_in, scratch_in}
+use Rattle.lower.specs.declared.Emitted.{Emitted}
+use Rattle.lower.specs.declared.Reason.{Reason}
 use Rattle.lower.specs.Terminator.{terminator}
-use Rattle.lower.specs.declared.MapUse.{MapUse}
-use Rattle.lower.specs.declared.MapUse.TheVariants as M
 use Rattle.layout.specs.Layout.{Context, at, ops}
 
 -- the payload of the record at a place, and what stands after it
@@ -29,13 +29,18 @@ places_in b end (suc n) first = pick (ltb first end) (first ∷ places_in b end 
 unfoldable pub places : List ℕ → ℕ → ℕ → List ℕ
 places b first end = places_in b end (end - first) first
 
--- the scratch position after it, if it is not refused: only an instruction that loads a map's address takes cells of the ring
-unfoldable pub ring_on : MapUse → ℕ → ℕ → ℕ
-ring_on M.Nothing j after = j
-ring_on (M.Map m) j after = after
+-- the map whose address it loads: a refused one loads none
+unfoldable pub map_taken : Result Emitted Reason → Option ℕ
+map_taken (Ok e) = e.map
+map_taken (Err r) = None
+
+-- the scratch position after it: only an instruction that loads a map's address takes cells of the ring
+unfoldable pub ring_on : Option ℕ → ℕ → ℕ → ℕ
+ring_on None j after = j
+ring_on (Some m) j after = after
 
 unfoldable pub ring_by : Context → ℕ → List ℕ → ℕ
-ring_by c j p = ring_on (held (instruction_by c j p)).map j (scratch_in j p)
+ring_by c j p = ring_on (map_taken (held (instruction_by c j p))) j (scratch_in j p)
 
 -- what the instructions at some places become, from scratch j on, and the scratch position after them
 unfoldable pub ops_at : Context → List ℕ → ℕ → List ℕ → List Op

@@ -1,5 +1,5 @@
 -- What the writing pass puts: operations at a slot, with the slots at which the targets of jumps begin.
-use Rattle.std.specs.Prelude.{◌≡◌, Bool, true, List, [], ◌∷◌, ℕ, suc, ◌+◌, ◌*◌, ◌≤◌, ℤ, pos, get_or}
+use Rattle.std.specs.Prelude.{◌≡◌, Bool, true, List, [], ◌∷◌, ℕ, suc, ◌+◌, ◌*◌, ◌≤◌, ℤ, pos, get_or, None, Option, Some}
 use Rattle.std.proofs.lemmas.List.Edits.{sets}
 use Rattle.wire.specs.Number.{bytes_before}
 use Rattle.wire.specs.Pick.{both}
@@ -9,8 +9,6 @@ use Rattle.insn.specs.declared.Insn.{Insn}
 use Rattle.insn.specs.declared.form.Form.TheVariants.{MovReg, Ja, JneImm}
 use Rattle.lower.specs.Op.{Op, plain, map, ja, jne, slots_of}
 use Rattle.lower.specs.Put.{wide_insn, zero_insn}
-use Rattle.lower.specs.declared.MapUse.{MapUse}
-use Rattle.lower.specs.declared.MapUse.TheVariants as M
 use Rattle.layout.specs.Jumps.{Start, distance}
 use Rattle.layout.specs.Code.{insns, code_bytes, relocations}
 use Rattle.layout.specs.Inner.{maps_of}
@@ -50,12 +48,12 @@ pub record RoomAt (l : List Op) (s t bytes numbers : ℕ) : Type 0 where
   pub relocs : t + 2 * maps_of l ≤ numbers
 
 -- the relocation of a map's load at slot s
-unfoldable pub relocations_by : ℕ → MapUse → List ℕ
-relocations_by s M.Nothing = []
-relocations_by s (M.Map m) = bytes_before s ∷ m ∷ []
+unfoldable pub relocations_by : ℕ → Option ℕ → List ℕ
+relocations_by s None = []
+relocations_by s (Some m) = bytes_before s ∷ m ∷ []
 
 -- n slots are passed, the first of which is the map's load
-pub record Relocates (m : MapUse) (n s t : ℕ) (rs : List ℕ) (s' t' : ℕ) (rs' : List ℕ) : Type 0 where
+pub record Relocates (m : Option ℕ) (n s t : ℕ) (rs : List ℕ) (s' t' : ℕ) (rs' : List ℕ) : Type 0 where
   pub slot : s' ≡ s + n
   pub reloc : t' ≡ t + 2 * relocs_by m
   pub relocs : rs' ≡ sets rs t (relocations_by s m)

@@ -1,5 +1,5 @@
 -- The instructions of a block and the block itself, from byte to byte of a unit: their variables have cells; what they take.
-use Rattle.std.specs.Prelude.{◌≡◌, Bool, ℕ, ◌+◌, ◌*◌, ◌≤◌}
+use Rattle.std.specs.Prelude.{◌≡◌, Bool, ℕ, ◌+◌, ◌*◌, ◌≤◌, Ok, Result}
 use mathlib.Core.List.{List, Memᴰ}
 use Rattle.ir.specs.Operands.{list_of}
 use Rattle.ir.specs.declared.Operand.TheVariants as O
@@ -13,8 +13,7 @@ use Rattle.size.specs.Celled.{HasCell, Celled}
 use Rattle.layout.specs.Layout.{Context, instructions}
 use Rattle.layout.specs.Inner.{block_by}
 use Rattle.passes.specs.Tables.{size_of}
-use Rattle.passes.specs.declared.Size.{Size}
-use Rattle.passes.specs.declared.Size.TheVariants as S
+use Rattle.lower.specs.declared.Reason.{Reason}
 
 -- ---- the variables have cells
 
@@ -41,10 +40,10 @@ pub record Row (f : Frame) (b : List ℕ) (end at : ℕ) : Type 0 where
   pub cells : RowCelled f instructions
 
 -- what they take, whatever the scratch position: 13 slots and one relocation at most for each, which has 4 bytes at least
-pub record RowSized (c : Context) (b : List ℕ) (end first : ℕ) (r : Size) : Type 0 where
+pub record RowSized (c : Context) (b : List ℕ) (end first : ℕ) (r : Result (ℕ × ℕ) (ℕ × Reason)) : Type 0 where
   pub row : Row c.frame b end first
   pub size : (j : ℕ) → r ≡ size_of (instructions c j row.instructions)
-  pub few : (n m : ℕ) → r ≡ S.Slots n m → (4 * n + 13 * first ≤ 13 * end) × (4 * m + first ≤ end)
+  pub few : (n m : ℕ) → r ≡ Ok (n, m) → (4 * n + 13 * first ≤ 13 * end) × (4 * m + first ≤ end)
 
 -- ---- a block
 
@@ -61,10 +60,10 @@ pub record SomeBlock (f : Frame) (b : List ℕ) (first end : ℕ) : Type 0 where
   pub stands : BlockIn f b first end block
 
 -- what it takes by whether it is emitted, whatever the scratch position
-pub record BlockSized (c : Context) (t : Bool) (first end : ℕ) (k : BasicBlock) (r : Size) : Type 0 where
+pub record BlockSized (c : Context) (t : Bool) (first end : ℕ) (k : BasicBlock) (r : Result (ℕ × ℕ) (ℕ × Reason)) : Type 0 where
   pub size : (j : ℕ) → r ≡ size_of (block_by c t j k)
-  pub few : (n m : ℕ) → r ≡ S.Slots n m → (4 * n + 13 * first ≤ 13 * end + 52) × (4 * m + first ≤ end + 4)
+  pub few : (n m : ℕ) → r ≡ Ok (n, m) → (4 * n + 13 * first ≤ 13 * end + 52) × (4 * m + first ≤ end + 4)
 
 -- of whichever block stands there
-pub record BlockTakes (c : Context) (b : List ℕ) (t : Bool) (first end : ℕ) (r : Size) : Type 0 where
+pub record BlockTakes (c : Context) (b : List ℕ) (t : Bool) (first end : ℕ) (r : Result (ℕ × ℕ) (ℕ × Reason)) : Type 0 where
   pub each : (k : BasicBlock) → BlockIn c.frame b first end k → BlockSized c t first end k r

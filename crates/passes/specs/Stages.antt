@@ -1,8 +1,7 @@
 -- What the passes hand on to one another.
-use Rattle.std.specs.Prelude.{ℕ, ◌*◌, ◌≤◌, ◌<◌, ◌≡◌, Bool, false, List, length, get_or, take}
+use Rattle.std.specs.Prelude.{ℕ, ◌*◌, ◌≤◌, ◌<◌, ◌≡◌, Bool, false, List, length, get_or, take, Ok}
 use Rattle.unitfile.specs.Unit.{BasicBlock, parse, read_unit}
 use Rattle.unitfile.specs.declared.Found.{Found}
-use Rattle.unitfile.specs.declared.ReadUnit.TheVariants as U
 use Rattle.survey.specs.Collected.{all, collected}
 use Rattle.survey.specs.Surveyed as survey
 use Rattle.survey.specs.Surveyed.{blocks_of}
@@ -30,7 +29,7 @@ pub record Spacious (n is es cs ts ns em ls : ℕ) : Type 0 where
 
 -- a unit that was read whole, with all its variables, and its blocks' ids and terminators' places at the fronts of their lists
 pub record Surveyed (b : List ℕ) (found : Found) (vs is es : List ℕ) : Type 0 where
-  pub read : read_unit b ≡ U.Unit found
+  pub read : read_unit b ≡ Ok found
   pub collects : collected (blocks_of (parse b)) ≡ all vs
   pub ids : take (length (blocks_of (parse b))) is ≡ survey.ids (blocks_of (parse b))
   pub endings : EndsAt b es

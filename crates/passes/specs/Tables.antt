@@ -1,5 +1,5 @@
 -- What the passes over a unit leave in the arrays they share: tables by block number.
-use Rattle.std.specs.Prelude.{◌≡◌, Bool, false, List, ℕ, ◌*◌, ◌≤◌, ◌<◌, length, get_or}
+use Rattle.std.specs.Prelude.{◌≡◌, Bool, false, List, ℕ, ◌*◌, ◌≤◌, ◌<◌, length, get_or, Err, None, Ok, Option, Result, Some}
 use Rattle.std.proofs.lemmas.List.Edits.{sets}
 use Rattle.wire.specs.Number.{bytes_before}
 use Rattle.wire.specs.Pick.{pick}
@@ -12,10 +12,6 @@ use Rattle.flow.specs.Linked.{number_from}
 use Rattle.survey.specs.Surveyed as survey
 use Rattle.lower.specs.Op.{Op, slots_of}
 use Rattle.lower.specs.declared.Reason.TheVariants as Re
-use Rattle.lower.specs.declared.Outcome.{Outcome}
-use Rattle.lower.specs.declared.Outcome.TheVariants as O
-use Rattle.lower.specs.declared.MapUse.{MapUse}
-use Rattle.lower.specs.declared.MapUse.TheVariants as M
 use Rattle.lower.specs.declared.Emitted.{Emitted}
 use Rattle.layout.specs.Emitted.{nodes}
 use Rattle.layout.specs.Layout.{Laid, laid, refused_at, Context, unit_ops, ops}
@@ -23,41 +19,37 @@ use Rattle.layout.specs.Jumps.{Landing, starts, jumps, landing}
 use Rattle.layout.specs.Inner as layout
 use Rattle.layout.specs.Inner.{keep_by, maps_of}
 use Rattle.passes.specs.Notes.{counts_of, pairs_of}
-use Rattle.passes.specs.declared.Size.{Size}
-use Rattle.passes.specs.declared.Size.TheVariants as S
+use Rattle.lower.specs.declared.Reason.{Reason}
 
 -- how many slots and relocations there are, or the first refusal and its place
-unfoldable pub size_of : Laid → Size
-size_of (laid l) = S.Slots (slots_of l) (maps_of l)
-size_of (refused_at place r) = S.Refused place r
+unfoldable pub size_of : Laid → Result (ℕ × ℕ) (ℕ × Reason)
+size_of (laid l) = Ok (slots_of l, maps_of l)
+size_of (refused_at place r) = Err (place, r)
 
--- the same by what an instruction's lowering answers: its outcome, its map, its slots
-unfoldable pub relocs_by : MapUse → ℕ
-relocs_by M.Nothing = 0
-relocs_by (M.Map m) = 1
+-- the same by what an instruction takes
+unfoldable pub relocs_by : Option ℕ → ℕ
+relocs_by None = 0
+relocs_by (Some m) = 1
 
-unfoldable pub size_on : ℕ → Outcome → MapUse → ℕ → Size
-size_on place O.Fine m n = S.Slots n (relocs_by m)
-size_on place (O.Refused r) m n = S.Refused place r
-
-unfoldable pub size_by : ℕ → Emitted → Size
-size_by place e = size_on place e.outcome e.map e.slots
+unfoldable pub size_by : ℕ → Result Emitted Reason → Result (ℕ × ℕ) (ℕ × Reason)
+size_by place (Ok e) = Ok (e.slots, relocs_by e.map)
+size_by place (Err r) = Err (place, r)
 
 -- of a terminator that loads an operand: a constant outside i32 is refused, and a variable is told to have a cell
-unfoldable pub load_size : ℕ → Operand → ℕ → Size
-load_size place (Var v) n = S.Slots n 0
-load_size place (Immediate z) n = pick (fits32 z) (S.Slots n 0) (S.Refused place (Re.Immediate z))
+unfoldable pub load_size : ℕ → Operand → ℕ → Result (ℕ × ℕ) (ℕ × Reason)
+load_size place (Var v) n = Ok (n, 0)
+load_size place (Immediate z) n = pick (fits32 z) (Ok (n, 0)) (Err (place, Re.Immediate z))
 
 -- of one record: a map's load and eleven instructions at most
-pub record Sized (l : Laid) (r : Size) : Type 0 where
+pub record Sized (l : Laid) (r : Result (ℕ × ℕ) (ℕ × Reason)) : Type 0 where
   pub size : r ≡ size_of l
-  pub few : (n m : ℕ) → r ≡ S.Slots n m → (n ≤ 13) × (m ≤ 1)
+  pub few : (n m : ℕ) → r ≡ Ok (n, m) → (n ≤ 13) × (m ≤ 1)
 
 -- ls: the slots at which the blocks begin, then the slot after the last
-pub record Measured (c : Context) (e : ℕ → Bool) (bs : List BasicBlock) (ls : List ℕ) (r : Size) (ls' : List ℕ) : Type 0 where
+pub record Measured (c : Context) (e : ℕ → Bool) (bs : List BasicBlock) (ls : List ℕ) (r : Result (ℕ × ℕ) (ℕ × Reason)) (ls' : List ℕ) : Type 0 where
   pub size : r ≡ size_of (unit_ops c (keep_by e 0 bs))
   pub edges : (l : List Op) → unit_ops c (keep_by e 0 bs) ≡ laid l → ls' ≡ sets ls 0 (layout.edges c e 0 0 1 bs)
-  pub few : (n m : ℕ) → r ≡ S.Slots n m → (n ≤ 851969) × (m ≤ 65536)
+  pub few : (n m : ℕ) → r ≡ Ok (n, m) → (n ≤ 851969) × (m ≤ 65536)
 
 -- of block k: whether it is emitted; its first slot, and the next block's; the numbers of the last blocks with the ids that its terminator names
 pub record Tables (c : Context) (e : ℕ → Bool) (bs : List BasicBlock) (edges numbers : List ℕ) : Type 0 where

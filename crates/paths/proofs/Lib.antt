@@ -3,9 +3,7 @@ pub mod Leads
 pub mod Table
 pub mod Steps
 pub mod Settle
-pub mod Sweeps
 pub mod Runs
-pub mod Signed
 pub mod Unique
 pub mod Lacking
 pub mod Unreached

@@ -10,28 +10,29 @@ use lib.Dec.{leb, ltb}
 use lib.ListN.{length, get_or, set, length-set, get_or-eq_default}
 use lib.Seq.{get_or-set_same}
 use borrow.Author.Tests.{le-leb, lt-ltb, leb-true, ltb-true}
+use Rattle.std.specs.Prelude.{Option, Some, None}
 use Rattle.wire.specs.Pick.{either}
 use Rattle.wire.specs.Bit.{bit}
 use Rattle.worklist.specs.Words.{listed, Sound}
-use Rattle.worklist.specs.Set.{marked_low, marked_mid, marked_top}
+use Rattle.worklist.specs.declared.Worklist.{Worklist}
 use Rattle.wire.proofs.Bits.{low_bit}
 use Rattle.worklist.proofs.Total.{after_set}
-use Rattle.worklist.proofs.Words.{marked}
 use Rattle.shape.specs.Code.{slots}
 use Rattle.shape.proofs.Tests.{both_true, either_true}
 use Rattle.paths.specs.Registers.{Regs, at_start}
 use Rattle.paths.specs.Way.{Next, Way, Way.begin, Way.step, Reached, Passes}
 use Rattle.paths.specs.Readable.{Readable, Told}
-use Rattle.paths.specs.Mask.{nowhere, node_at}
-use Rattle.paths.specs.Work.{tab, through, Sub, Table, Work, beyond, leaving, Settled, Solved}
+use Rattle.paths.specs.Mask.{node_at}
+use Rattle.paths.specs.Work.{tab, through, Sub, Table, Work, Marks, beyond, leaving, Settled, Solved}
 use Rattle.paths.specs.declared.Ends.{Ends}
 use Rattle.paths.proofs.Masks.{num, num_le, num_true, num_false, full, through_bit, after_bit, bit_11, unmade, start_bit}
-use Rattle.paths.proofs.Leads.{leads, leads_on, leads_to, near}
+use Rattle.paths.proofs.Leads.{leads, leads_on, leads_to}
 use Rattle.paths.proofs.Table.{sub_refl}
+use Rattle.paths.proofs.Steps.{marks}
 
 -- ---- the beginning: no path has come but to slot 0
 
-module _ (b t : List ℕ) (size : length t ≡ slots b) (some : 0 < length t) (all : (k : ℕ) → k < length t → get_or t k 0 ≡ 4095) where
+module _ (b t : List ℕ) (size : length t ≡ slots b) (some : 0 < length t) (few : length t ≤ 131072) (all : (k : ℕ) → k < length t → get_or t k 0 ≡ 4095) where
   low : (v : ℕ) → get_or t v 0 < 4096
   low v = go (dec_lt v (length t))
     where
@@ -43,6 +44,8 @@ module _ (b t : List ℕ) (size : length t ≡ slots b) (some : 0 < length t) (a
   began_table =
       record {
         size = length-set t 0 5122 ∙ size;
+        some = omega arith;
+        few = omega arith;
         small = λ v. after_set (λ u z. z < 8192) t 0 5122 v some (omega arith) (λ _. omega (arith, low v));
         begins = subst (λ (z : ℕ). Sub (z % 4096) 1026) (sym (get_or-set_same t 0 5122 0 some)) sub_refl;
         goes =
@@ -63,9 +66,9 @@ module _ (b t : List ℕ) (size : length t ≡ slots b) (some : 0 < length t) (a
         waiting = λ v. after_set (λ k z. 4096 ≤ z → Reached b k) t 0 5122 v some (λ _. (at_start, begin)) (λ _ f. absurd (omega (arith, low v)));
       }
 
-  pub began : (d s : List ℕ) → Sound d s 0 → Work b (set t 0 5122) (marked_low d 0) (marked_mid s 0) (marked_top 0 0)
-  began d s S =
-      let M = marked d s 0 S 0 in
+  pub began : (w w' : Worklist) → Sound w.low w.mid w.top → Marks w 0 w' → Work b (set t 0 5122) w'
+  began w w' S m =
+      let M = marks w S 0 w' m in
       record {
         table = began_table;
         kept =
@@ -73,7 +76,7 @@ module _ (b t : List ℕ) (size : length t ≡ slots b) (some : 0 < length t) (a
               sound = M.sound;
               has =
                   λ v f _.
-                  after_set (λ k z. k ≡ v → 4096 ≤ z → listed (marked_low d 0) k ≡ 1) t 0 5122 v some (λ _ _. M.here (omega arith)) (λ _ _ f. absurd (omega (arith, low v))) refl f;
+                  after_set (λ k z. k ≡ v → 4096 ≤ z → listed w'.low k ≡ 1) t 0 5122 v some (λ _ _. M.here (omega arith)) (λ _ _ f. absurd (omega (arith, low v))) refl f;
             };
       }
 
@@ -121,36 +124,33 @@ module _ (b t : List ℕ) (S : Settled b t) where
   size : length t ≡ slots b
   size = S.table.size
 
-  beyond_is : (w : ℕ) → slots b ≤ w → w < nowhere → beyond (length t) w ≡ true
-  unfolding beyond
-  beyond_is w h l = simp (le-leb (length t) w (omega (arith, size)), lt-ltb w nowhere l)
-
-  leaving_is : {v w : ℕ} {m : Regs} → Way b v m → v < slots b → slots b ≤ 131072 → Next b v w → slots b ≤ w → leaving b t v ≡ true
-  unfolding leaving
-  leaving_is {v} {w} p lv ln e h =
+  leaving_is : {v w : ℕ} {m : Regs} → Way b v m → v < slots b → Next b v w → slots b ≤ w → leaving b t v ≡ true
+  unfolding leaving beyond
+  leaving_is {v} {w} p lv e h =
       let c : get_or t v 0 < 2048 = bits_low (get_or t v 0) (S.calm v) (subst (λ (x : ℕ). bit x 11 ≡ 0) (mask_at v) (below p lv).0) in
-      let far : beyond (length t) w ≡ true = beyond_is w h (omega (arith, near b v e)) in
-      ⊎_elim (λ q. simp (lt-ltb (get_or t v 0) 2048 c, rw q at far)) (λ q. simp (lt-ltb (get_or t v 0) 2048 c, rw q at far) (or_true (beyond (length t) (node_at b v).on))) (leads b v e)
+      let far : leb (length t) w ≡ true = le-leb (length t) w (omega (arith, size)) in
+      ⊎_elim (λ q. rw (lt-ltb (get_or t v 0) 2048 c, ← q, far)) (λ q. rw (lt-ltb (get_or t v 0) 2048 c, ← q, far) (or_true (beyond (length t) (node_at b v).on))) (leads b v e)
     where
       or_true : (p : Bool) → either p true ≡ true
       or_true true = refl
       or_true false = refl
 
+  far : {v : ℕ} {m : Regs} → Way b v m → v < slots b → (slot : Option ℕ) → ((w : ℕ) → slot ≡ Some w → Next b v w) → beyond (length t) slot ≡ true → Passes b
+  unfolding beyond
+  far p lv None n q = absurd (true≢false (sym q))
+  far p lv (Some w) n q = (w, (_, (step p lv (n w refl), omega (arith, leb-true (length t) w q, size))))
+
   -- where no slot leads past the end, no path does
-  pub inside : 0 < slots b → slots b ≤ 131072 → ((v : ℕ) → v < length t → leaving b t v ≡ false) → Passes b → ⊥
-  inside h ln none (w, (m, (begin, l))) = omega arith
-  inside h ln none (w, (m, (step {s = v} p lv e, l))) = true≢false (sym (leaving_is p lv ln e l) ∙ none v (omega (arith, size)))
+  pub inside : ((v : ℕ) → v < length t → leaving b t v ≡ false) → Passes b → ⊥
+  inside none (w, (m, (begin, l))) = omega (arith, S.table.some)
+  inside none (w, (m, (step {s = v} p lv e, l))) = true≢false (sym (leaving_is p lv e l) ∙ none v (omega (arith, size)))
 
   -- where one does, a path does
   pub outside : (v : ℕ) → v < length t → leaving b t v ≡ true → Passes b
-  unfolding leaving beyond
+  unfolding leaving
   outside v l e =
       let c : get_or t v 0 < 2048 = ltb-true (get_or t v 0) 2048 (both_true (ltb (get_or t v 0) 2048) _ e).0 in
       let lv : v < slots b = omega (arith, size) in
       let p : Reached b v = S.table.came v lv (subst (λ (x : ℕ). bit x 11 ≡ 0) (sym (mask_at v)) (bit_11 (get_or t v 0) c)) in
-      let far : (w : ℕ) → beyond (length t) w ≡ true → (slots b ≤ w) × (w < nowhere) =
-      λ w q. let p = both_true (leb (length t) w) (ltb w nowhere) q in (omega (arith, leb-true (length t) w p.0, size), ltb-true w nowhere p.1)
-      in
-      ⊎_elim (λ q. ((node_at b v).on, (_, (step p.1 lv (leads_on b v (far (node_at b v).on q).1), (far (node_at b v).on q).0))))
-      (λ q. ((node_at b v).to, (_, (step p.1 lv (leads_to b v (far (node_at b v).to q).1), (far (node_at b v).to q).0))))
+      ⊎_elim (λ q. far p.1 lv (node_at b v).on (λ w f. leads_on b v f) q) (λ q. far p.1 lv (node_at b v).to (λ w f. leads_to b v f) q)
       (either_true (beyond (length t) (node_at b v).on) (beyond (length t) (node_at b v).to) (both_true (ltb (get_or t v 0) 2048) _ e).1)

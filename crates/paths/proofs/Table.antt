@@ -84,6 +84,8 @@ module _ (b : List ℕ) (x : ℕ) (t : List ℕ) (w out : ℕ) (T : Table b x t)
       let y : ℕ = lowered t w out + 4096 in
       record {
         size = length-set t w y ∙ T.size;
+        some = T.some;
+        few = T.few;
         small = λ v. after_set (λ u z. z < 8192) t w y v lw (omega (arith, lowered_lt t w out)) (λ _. T.small v);
         begins = sub_trans (falls.down 0) T.begins;
         goes =
@@ -120,6 +122,8 @@ module _ (b t : List ℕ) (v : ℕ) (T : Table b (slots b) t) (lv : v < length t
       let same : (u : ℕ) → tab (set t v y) u ≡ tab t u = λ u. after_set (λ k z. z % 4096 ≡ tab t k) t v y u lv (omega arith) (λ _. refl) in
       record {
         size = length-set t v y ∙ T.size;
+        some = T.some;
+        few = T.few;
         small = λ u. after_set (λ k z. z < 8192) t v y u lv (omega (arith, T.small v)) (λ _. T.small u);
         begins = sub_at (tab t 0) (same 0) T.begins;
         goes =
@@ -157,6 +161,8 @@ pub closed : (b : List ℕ) (v : ℕ) (t u : List ℕ) → Table b v u → Falls
 closed b v t u T F lo h =
     record {
       size = T.size;
+      some = T.some;
+      few = T.few;
       small = T.small;
       begins = T.begins;
       goes = λ a w la lw e _. go a w la lw e (ℕ_discrete a v);

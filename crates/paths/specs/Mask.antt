@@ -1,12 +1,12 @@
 -- Registers as a mask, bit r for register r, and what the program takes from an instruction.
-use Rattle.std.specs.Prelude.{ℕ, zero, suc, ◌+◌, ◌-◌, ◌*◌, List, eqb, ℤ, pos, negsuc}
+use Rattle.std.specs.Prelude.{ℕ, zero, suc, ◌+◌, ◌-◌, ◌*◌, Option, Some, None, List, eqb}
 use Rattle.std.specs.Int.Bits.{bit_and}
 use Rattle.wire.specs.Pick.{pick}
 use Rattle.insn.specs.declared.Insn.{Insn}
 use Rattle.insn.specs.declared.form.Form.{Form}
 use Rattle.insn.specs.declared.form.Form.TheVariants.{NoForm, WideLoad, Ldx, Stx, AluImm, AluReg, MovImm, MovReg, Ja, JeqImm, JneImm, Call, Exit}
 use Rattle.shape.specs.Code.{at, form_at}
-use Rattle.shape.specs.Shape.{target}
+use Rattle.shape.specs.Shape.{target, landing}
 use Rattle.paths.specs.Registers.{Regs, reads}
 use Rattle.paths.specs.declared.node.Node.{Node}
 use Rattle.paths.specs.declared.node.Flow.{Flow}
@@ -29,14 +29,6 @@ lacking need x = bit_and need (2047 - x)
 unfoldable pub only : ℕ → Regs
 only x r = eqb r x
 
--- a number past each slot to which a path leads
-abbrev pub nowhere : ℕ
-nowhere = 4294967296
-
-unfoldable pub landing : ℤ → ℕ
-landing (pos t) = t
-landing (negsuc t) = nowhere
-
 -- what an instruction does to a path, by its form
 unfoldable pub flow_of : Form → Flow
 flow_of NoForm = Stops
@@ -53,18 +45,18 @@ flow_of JneImm = Branches
 flow_of Call = Calls
 flow_of Exit = Stops
 
-abbrev pub leading : ℕ → ℕ → ℕ → ℕ → Node
+abbrev pub leading : Option ℕ → Option ℕ → ℕ → ℕ → Node
 leading on to keep made = record { on = on; to = to; keep = keep; made = made }
 
 -- where a path leads from slot s, which bits of a mask are kept, and which are put to it: a call takes R0 to R5 away, and makes R0
 unfoldable pub node_of : ℕ → Insn → Flow → Node
-node_of s i Stops = leading nowhere nowhere 4095 0
-node_of s i Keeps = leading (s + 1) nowhere 4095 0
-node_of s i Writes = leading (s + 1) nowhere 4095 (mask (only i.dst) 11)
-node_of s i WritesWide = leading (s + 2) nowhere 4095 (mask (only i.dst) 11)
-node_of s i Calls = leading (s + 1) nowhere 4032 1
-node_of s i Jumps = leading nowhere (landing (target s i.off)) 4095 0
-node_of s i Branches = leading (s + 1) (landing (target s i.off)) 4095 0
+node_of s i Stops = leading None None 4095 0
+node_of s i Keeps = leading (Some (s + 1)) None 4095 0
+node_of s i Writes = leading (Some (s + 1)) None 4095 (mask (only i.dst) 11)
+node_of s i WritesWide = leading (Some (s + 2)) None 4095 (mask (only i.dst) 11)
+node_of s i Calls = leading (Some (s + 1)) None 4032 1
+node_of s i Jumps = leading None (landing (target s i.off)) 4095 0
+node_of s i Branches = leading (Some (s + 1)) (landing (target s i.off)) 4095 0
 
 unfoldable pub node_at : List ℕ → ℕ → Node
 node_at b s = node_of s (at b s) (flow_of (form_at b s))

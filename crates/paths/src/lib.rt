@@ -20,25 +20,19 @@ pub enum Ends {
 }
 
 // Fills the front of the table.
+#[tactic(auto, unfolding(shape::specs::Code::slots))]
 pub fn analyse(code: &[u8], table: &mut [u16]) -> Ends
     ensures { Analysed code.now table.old table.new result }
 {
     let n = code.len() / 8;
-    if n == 0 {
+    if n == 0 || 131072 < n || table.len() < n {
         return Ends::NotRun;
     }
-    if 131072 < n {
-        return Ends::NotRun;
-    }
-    if table.len() < n {
-        return Ends::NotRun;
-    }
-    let mut d = [0u64; 2048];
-    let mut s = [0u64; 32];
-    work::solve(code, &mut table[0..n], &mut d, &mut s)
+    work::solve(code, &mut table[..n])
 }
 
 // The registers 0 to 10 that the instruction at a slot reads, bit r for register r; none past the end.
+#[tactic(auto, unfolding(crate::specs::Mask::read_mask, shape::specs::Code::form_at))]
 pub fn read_mask(code: &[u8], slot: SlotNumber) -> u16
     ensures { result ≡ read_mask code.now slot.0 }
 {

@@ -1,24 +1,20 @@
 // What the analysis takes from an instruction.
 ghost use Rattle.std.specs.Prelude.{◌≡◌, ◌<◌};
 ghost use Rattle.insn.specs.Helper.{helper_of, arguments};
-ghost use Rattle.shape.specs.Shape.{target};
 ghost use Rattle.paths.specs.Registers.{reads, argument};
-ghost use Rattle.paths.specs.Mask.{mask, only, landing, flow_of, node_of, node_at};
+ghost use Rattle.paths.specs.Mask.{mask, only, flow_of, node_of, node_at};
 
 use insn::Insn;
 use insn::form::Form;
-use insn::helper::{Helper, helper_of};
-use shape::slot::instruction_at;
+use insn::helper::helper_of;
+use shape::slot::{instruction_at, target};
 use wire::number::SlotNumber;
 
-// Past each slot to which a path leads.
-pub const NOWHERE: usize = 4294967296;
-
-// The slot to which a path goes on and the one to which it jumps, each NOWHERE for none; the mask that is kept, and what is put to it.
+// The slot to which a path goes on and the one to which it jumps, if any; the mask that is kept, and what is put to it.
 #[derive(Drop)]
 pub struct Node {
-    pub on: usize,
-    pub to: usize,
+    pub on: Option<usize>,
+    pub to: Option<usize>,
     pub keep: u16,
     pub made: u16,
 }
@@ -35,97 +31,80 @@ pub enum Flow {
     Branches,
 }
 
-// A jump's slot, unless it lies before the first.
-fn landing_at(s: usize, off: i16) -> usize
-    requires { s < 131072 }
-    ensures { result ≡ landing (target s off) }
-{
-    if off < 0 {
-        let back = (-1 - off) as usize;
-        if s < back {
-            return NOWHERE;
-        }
-        return s - back;
-    }
-    s + 1 + off as usize
-}
-
 fn register(x: u8) -> u16
     ensures { result ≡ mask (only x) 11 }
 {
-    if x < 11 { 1u16 << x } else { 0 }
+    if x < 11 { 1 << x } else { 0 }
 }
 
+#[tactic(auto, unfolding(crate::specs::Mask::flow_of))]
 fn flow_of(f: Form) -> Flow
     ensures { result ≡ flow_of f }
 {
     match f {
-        Form::NoForm => Flow::Stops,
-        Form::WideLoad => Flow::WritesWide,
-        Form::Ldx(_) => Flow::Writes,
+        Form::NoForm | Form::Exit => Flow::Stops,
         Form::Stx(_) => Flow::Keeps,
-        Form::AluImm(_) => Flow::Writes,
-        Form::AluReg(_) => Flow::Writes,
-        Form::MovImm => Flow::Writes,
-        Form::MovReg => Flow::Writes,
-        Form::Ja => Flow::Jumps,
-        Form::JeqImm => Flow::Branches,
-        Form::JneImm => Flow::Branches,
+        Form::Ldx(_) | Form::AluImm(_) | Form::AluReg(_) | Form::MovImm | Form::MovReg =>
+            Flow::Writes,
+        Form::WideLoad => Flow::WritesWide,
         Form::Call => Flow::Calls,
-        Form::Exit => Flow::Stops,
+        Form::Ja => Flow::Jumps,
+        Form::JeqImm | Form::JneImm => Flow::Branches,
     }
 }
 
+#[tactic(auto, unfolding(crate::specs::Mask::node_of))]
 fn node_of(s: usize, i: Insn, e: Flow) -> Node
     requires { s < 131072 }
     ensures { result ≡ node_of s i e }
 {
     match e {
         Flow::Stops => Node {
-            on: NOWHERE,
-            to: NOWHERE,
+            on: None,
+            to: None,
             keep: 4095,
             made: 0,
         },
         Flow::Keeps => Node {
-            on: s + 1,
-            to: NOWHERE,
+            on: Some(s + 1),
+            to: None,
             keep: 4095,
             made: 0,
         },
         Flow::Writes => Node {
-            on: s + 1,
-            to: NOWHERE,
+            on: Some(s + 1),
+            to: None,
             keep: 4095,
             made: register(i.dst),
         },
         Flow::WritesWide => Node {
-            on: s + 2,
-            to: NOWHERE,
+            on: Some(s + 2),
+            to: None,
             keep: 4095,
             made: register(i.dst),
         },
         Flow::Calls => Node {
-            on: s + 1,
-            to: NOWHERE,
+            on: Some(s + 1),
+            to: None,
             keep: 4032,
             made: 1,
         },
         Flow::Jumps => Node {
-            on: NOWHERE,
-            to: landing_at(s, i.off),
+            on: None,
+            to: target(SlotNumber(s as u32), i.off),
             keep: 4095,
             made: 0,
         },
         Flow::Branches => Node {
-            on: s + 1,
-            to: landing_at(s, i.off),
+            on: Some(s + 1),
+            to: target(SlotNumber(s as u32), i.off),
             keep: 4095,
             made: 0,
         },
     }
 }
 
+#[tactic(auto, unfolding(crate::specs::Mask::node_at, shape::specs::Code::form_at))]
 pub(crate) fn node_at(code: &[u8], s: usize) -> Node
     requires { s < 131072 }
     ensures { result ≡ node_at code.now s }
@@ -139,28 +118,22 @@ fn arguments_of(imm: i32) -> u16
     ensures { result ≡ mask (argument (arguments (helper_of imm))) 11 }
 {
     match helper_of(imm) {
-        Helper::NoHelper => 0,
-        Helper::Takes(n) => (2u16 << n) - 2,
+        None => 0,
+        Some(n) => (2u16 << n) - 2,
     }
 }
 
+#[tactic(auto, using(crate::proofs::Masks::mask_or), unfolding(crate::specs::Registers::reads, crate::specs::Mask::mask, crate::specs::Mask::only))]
 pub(crate) fn reads_of(i: Insn, f: Form) -> u16
     ensures { result ≡ mask (reads f i) 11 }
 {
     let dst = register(i.dst);
     let src = register(i.src);
     match f {
-        Form::NoForm => 0,
-        Form::WideLoad => 0,
-        Form::Ldx(_) => src,
-        Form::Stx(_) => dst | src,
-        Form::AluImm(_) => dst,
-        Form::AluReg(_) => dst | src,
-        Form::MovImm => 0,
-        Form::MovReg => src,
-        Form::Ja => 0,
-        Form::JeqImm => dst,
-        Form::JneImm => dst,
+        Form::NoForm | Form::WideLoad | Form::MovImm | Form::Ja => 0,
+        Form::Ldx(_) | Form::MovReg => src,
+        Form::AluImm(_) | Form::JeqImm | Form::JneImm => dst,
+        Form::Stx(_) | Form::AluReg(_) => dst | src,
         Form::Call => arguments_of(i.imm),
         Form::Exit => 1,
     }

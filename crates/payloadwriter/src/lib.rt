@@ -28,27 +28,24 @@ fn set_instruction(b: &mut [u8], at: usize, res: u32, f: Fields, list: Operands)
     put_operands(b, at + 16, list);
 }
 
+#[tactic(auto, using(crate::proofs::Lengths::instruction_length, wire::proofs::Store::store_out))]
 pub fn put_instruction(b: &mut [u8], at: usize, res: u32, f: Fields, list: Operands)
     ensures { b.new ≡ store b.old at (instruction_bytes res f (list_of list)) }
 {
-    let len = b.len();
-    if lies(at, 16 + 9 * (operands::count(list) as usize), len) {
+    if lies(at, 16 + 9 * usize::from(operands::count(list)), b.len()) {
         set_instruction(b, at, res, f, list);
     }
 }
 
 // How many bytes a terminator's payload has.
+#[tactic(auto, using(crate::proofs::Lengths::return_length, crate::proofs::Lengths::jump_length, crate::proofs::Lengths::branch_length))]
 pub fn terminator_size(t: Terminator) -> u16
     ensures { result ≡ length (terminator_bytes t) }
 {
     match t {
         Terminator::Return(_) => 10,
         Terminator::Jump(_) => 5,
-        Terminator::Branch {
-            condition: _,
-            true_block: _,
-            false_block: _,
-        } => 18,
+        Terminator::Branch { .. } => 18,
     }
 }
 
@@ -79,11 +76,11 @@ fn set_terminator(b: &mut [u8], at: usize, t: Terminator)
     }
 }
 
+#[tactic(auto, using(wire::proofs::Store::store_out))]
 pub fn put_terminator(b: &mut [u8], at: usize, t: Terminator)
     ensures { b.new ≡ store b.old at (terminator_bytes t) }
 {
-    let len = b.len();
-    if lies(at, terminator_size(t) as usize, len) {
+    if lies(at, usize::from(terminator_size(t)), b.len()) {
         set_terminator(b, at, t);
     }
 }

@@ -20,8 +20,10 @@ use Rattle.layout.proofs.Written.{insns_count, code_length, relocations_count}
 use Rattle.tracepoint.specs.Compile.{Lowering, lowered, faulty, on_landing, on_laid, on_collected, lowering, lowering_of, roomed, compile_answer, code_of, relocs_of, front, compile_code, compile_relocs}
 use Rattle.tracepoint.specs.declared.Fault.{Fault}
 use Rattle.tracepoint.specs.declared.Fault.TheVariants as F
-use Rattle.tracepoint.specs.declared.Compiled.TheVariants as A
 use Rattle.proved.specs.Compiled.{context_of, Lowers, Fits, Wrote}
+use Rattle.std.specs.Prelude.{Err, Ok}
+use Rattle.wire.proofs.Pairs.{ok_parts}
+use Rattle.std.specs.Prelude.{Result}
 
 -- ---- nothing is refused
 
@@ -54,20 +56,20 @@ lowers u xs l e = go (collected u.blocks) refl e
 
 -- ---- there is room
 
-pub fits : (code relocs : ℕ) (low : Lowering) (n m : ℕ) → roomed code relocs low ≡ A.Done n m → Fits code relocs low n m
+pub fits : (code relocs : ℕ) (low : Lowering) (n m : ℕ) → roomed code relocs low ≡ Ok (n, m) → Fits code relocs low n m
 unfolding roomed
 fits code relocs (faulty f) n m e = let z : ◌≡◌ {A = ℕ} 0 1 = cc in absurd (omega arith)
 fits code relocs (lowered xs l) n m e = go (leb (8 * slots_of l) code) (leb (length (relocations 0 l)) relocs) refl refl e
   where
     go : (x y : Bool) → leb (8 * slots_of l) code ≡ x → leb (length (relocations 0 l)) relocs ≡ y
-        → pick x
-        (pick y (A.Done (slots_of l) (length (relocations 0 l) / 2)) (A.Refused (F.RelocRoom (length (relocations 0 l)))))
-        (A.Refused (F.CodeRoom (8 * slots_of l)))
-        ≡ A.Done n m
+        → pick {A = Result (ℕ × ℕ) Fault} x
+        (pick y (Ok (slots_of l, length (relocations 0 l) / 2)) (Err (F.RelocRoom (length (relocations 0 l)))))
+        (Err (F.CodeRoom (8 * slots_of l)))
+        ≡ Ok (n, m)
         → Fits code relocs (lowered xs l) n m
     go true true p q e =
-        let s : slots_of l ≡ n = cc in
-        let h : length (relocations 0 l) / 2 ≡ m = cc in
+        let s : slots_of l ≡ n = (ok_parts e).0 in
+        let h : length (relocations 0 l) / 2 ≡ m = (ok_parts e).1 in
         let even = relocations_count 0 l in
         record {
           starts = xs;
@@ -87,7 +89,7 @@ fits code relocs (lowered xs l) n m e = go (leb (8 * slots_of l) code) (leb (len
 stored : (l new : List ℕ) (n : ℕ) → length new ≡ n → n ≤ length l → take n (sets l 0 new) ≡ new
 stored l new n e h = ap (take n) (sets-eq new l 0 (omega arith)) ∙ take_at new (drop (0 + length new) l) n e
 
-module _ (b code relocs : List ℕ) (n m : ℕ) (done : compile_answer b (length code) (length relocs) ≡ A.Done n m) (u : UnitIr) (read : parse b ≡ parsed u) where
+module _ (b code relocs : List ℕ) (n m : ℕ) (done : compile_answer b (length code) (length relocs) ≡ Ok (n, m)) (u : UnitIr) (read : parse b ≡ parsed u) where
   fronts : (xs : List Start) (l : List Op) → lowering_of (parse b) ≡ lowered xs l → slots_of l ≡ n → length (relocations 0 l) ≡ 2 * m → 8 * n ≤ length code → 2 * m ≤ length relocs → Wrote b code relocs n m u
   unfolding compile_code compile_relocs front code_of relocs_of lowering_of
   fronts xs l e s p h k =
@@ -108,10 +110,10 @@ module _ (b code relocs : List ℕ) (n m : ℕ) (done : compile_answer b (length
       fronts F.starts F.ops F.is F.slots F.pairs F.code_room F.relocs_room
 
 -- a call that is done has read its unit
-pub has_read : (b : List ℕ) (code relocs n m : ℕ) → compile_answer b code relocs ≡ A.Done n m → (u : UnitIr) × (parse b ≡ parsed u)
+pub has_read : (b : List ℕ) (code relocs n m : ℕ) → compile_answer b code relocs ≡ Ok (n, m) → (u : UnitIr) × (parse b ≡ parsed u)
 unfolding compile_answer lowering_of roomed
 has_read b code relocs n m done = go (parse b) refl done
   where
-    go : (x : Parsed) → parse b ≡ x → roomed code relocs (lowering_of x) ≡ A.Done n m → (u : UnitIr) × (parse b ≡ parsed u)
+    go : (x : Parsed) → parse b ≡ x → roomed code relocs (lowering_of x) ≡ Ok (n, m) → (u : UnitIr) × (parse b ≡ parsed u)
     go (parsed u) e d = (u, e)
     go (refused f) e d = let z : ◌≡◌ {A = ℕ} 0 1 = cc in absurd (omega arith)

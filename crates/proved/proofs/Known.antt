@@ -55,7 +55,7 @@ unfolding printed together unit calls p1 p2 p3 p4 p5 p6 p7 p8 p9 p10
     terminator.returning terminator.branching terminator.terminator_at
     reader.head_in reader.head_ok reader.of_instruction reader.of_terminator reader.payload_at reader.kind_of
     records.kind_due records.not_due records.broken records.on_payload records.read_record
-    opening.same_name opening.among opening.on_map opening.names_at opening.first_record opening.with_names opening.on_head opening.open_unit
+    opening.among opening.on_map opening.names_at opening.first_record opening.with_names opening.on_head opening.open_unit
     file.after file.on_record file.next_record file.cons file.on_step file.up_to file.records_from
     parser.on_value parser.group parser.with_records parser.on_opened parser.parse
     names.name_of

@@ -4,31 +4,33 @@ use Rattle.wire.specs.declared.number.ByteOffset.{ByteOffset}
 use Rattle.lower.specs.Op.{◌▸◌, insn}
 use Rattle.lower.specs.Held.{ending_ops}
 use Rattle.lower.specs.declared.Ending.{Ending}
-use Rattle.lower.specs.declared.Ending.TheVariants.{Return, Jump, Branch, Refused}
+use Rattle.lower.specs.declared.Ending.TheVariants.{Return, Jump, Branch}
 use Rattle.paths.proofs.Unique as paths
 use Rattle.screen.proofs.OneAnswer as screen
 use Rattle.shurtenbo.proofs.OneAnswer as shurtenbo
 use Rattle.proved.specs.OneAnswer.{◌and◌, OneAnswer}
+use Rattle.lower.specs.declared.Reason.{Reason}
+use Rattle.std.specs.Prelude.{Err, Ok, Result}
 
 -- each value of a terminator is of one list only
-same_ending : (x y : Ending) → ending_ops x ≡ ending_ops y → x ≡ y
+same_ending : (x y : Result Ending Reason) → ending_ops x ≡ ending_ops y → x ≡ y
 unfolding ending_ops ◌▸◌ insn
-same_ending (Return i) (Return j) e = cc
-same_ending (Return i) (Jump t) e = cc
-same_ending (Return i) (Branch j t f) e = cc
-same_ending (Return i) (Refused q) e = cc
-same_ending (Jump t) (Return j) e = cc
-same_ending (Jump t) (Jump u) e = cc
-same_ending (Jump t) (Branch j u f) e = cc
-same_ending (Jump t) (Refused q) e = cc
-same_ending (Branch i t f) (Return j) e = cc
-same_ending (Branch i t f) (Jump u) e = cc
-same_ending (Branch i t f) (Branch j u g) e = cc
-same_ending (Branch i t f) (Refused q) e = cc
-same_ending (Refused r) (Return j) e = cc
-same_ending (Refused r) (Jump u) e = cc
-same_ending (Refused r) (Branch j u f) e = cc
-same_ending (Refused r) (Refused q) e = cc
+same_ending (Ok (Return i)) (Ok (Return j)) e = cc
+same_ending (Ok (Return i)) (Ok (Jump t)) e = cc
+same_ending (Ok (Return i)) (Ok (Branch j t f)) e = cc
+same_ending (Ok (Return i)) (Err q) e = cc
+same_ending (Ok (Jump t)) (Ok (Return j)) e = cc
+same_ending (Ok (Jump t)) (Ok (Jump u)) e = cc
+same_ending (Ok (Jump t)) (Ok (Branch j u f)) e = cc
+same_ending (Ok (Jump t)) (Err q) e = cc
+same_ending (Ok (Branch i t f)) (Ok (Return j)) e = cc
+same_ending (Ok (Branch i t f)) (Ok (Jump u)) e = cc
+same_ending (Ok (Branch i t f)) (Ok (Branch j u g)) e = cc
+same_ending (Ok (Branch i t f)) (Err q) e = cc
+same_ending (Err r) (Ok (Return j)) e = cc
+same_ending (Err r) (Ok (Jump u)) e = cc
+same_ending (Err r) (Ok (Branch j u f)) e = cc
+same_ending (Err r) (Err q) e = cc
 
 same_offset : (x y : ByteOffset) → x.0 ≡ y.0 → x ≡ y
 same_offset x y e = rw e
@@ -57,6 +59,7 @@ one_answer =
       wire_get_i16 = λ κ a x y s t p q. cc;
       wire_get_i32 = λ κ a x y s t p q. cc;
       wire_get_i64 = λ κ a x y s t p q. cc;
+      wire_put_bytes = λ κ a x y s t p q. cc;
       wire_put_u8 = λ κ a x y s t p q. cc;
       wire_put_u16 = λ κ a x y s t p q. cc;
       wire_put_u32 = λ κ a x y s t p q. cc;
@@ -126,18 +129,16 @@ one_answer =
       unitfile_map_named = λ κ a x y s t p q. cc;
       recordparts_terminator_in = λ κ a x y s t p q. cc;
       frame_scratch = λ κ a x y s t p q. cc;
-      frame_index_at = λ κ a x y s t p q. cc;
-      frame_cell_at = λ κ a x y s t p q. cc;
+      frame_index = λ κ a x y s t p q. cc;
+      frame_cell = λ κ a x y s t p q. cc;
       frame_put_hints = λ κ a x y s t p q. cc;
       frame_insert = λ κ a x y s t p q. cc;
-      frame_fixed = λ κ a x y s t p q. refl;
       sort_sort = λ κ a x y s t p q. cc;
       flow_link = λ κ a x y s t p q. cc;
       survey_survey_unit = λ κ a x y s t p q. cc;
       lower_lower_instruction = λ κ a x y s t p q. cc;
       lower_scratch_after = λ κ a x y s t p q. cc;
       lower_lower_terminator = λ κ a x y s t p q. same_ending x y (p ∙ sym q);
-      lower_refused = λ κ a x y s t p q. cc;
       size_size_instruction = λ κ a x y s t p q. cc;
       jumps_distance = λ κ a x y s t p q. cc;
       jumps_check_jumps = λ κ a x y s t p q. cc;
@@ -145,7 +146,9 @@ one_answer =
       tracepoint_compile_tracepoint = λ κ a x y s t p q. cc;
       shape_length_ok = λ κ a x y s t p q. cc;
       shape_instruction_at = λ κ a x y s t p q. cc;
+      shape_target = λ κ a x y s t p q. cc;
       shape_judge = λ κ a x y s t p q. cc;
+      worklist_new = λ κ a x y s t p q. cc;
       worklist_mark = λ κ a x y s t p q. cc;
       worklist_take = λ κ a x y s t p q. cc;
       paths_analyse = λ κ a x y s t p q. let E = paths.one_answer a.0.now a.1.0.now s.1.0.now t.1.0.now x y p q in both_same E.1 E.0;

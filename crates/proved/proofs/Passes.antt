@@ -22,7 +22,6 @@ use Rattle.shape.specs.Shapes.{judged}
 use Rattle.shape.specs.declared.Shapes.TheVariants as Ss
 use Rattle.shape.proofs.Judged.{judged_fine}
 use Rattle.shape.proofs.Rules.{fine_rules}
-use Rattle.screen.specs.declared.Verdict.TheVariants.{Yes}
 use Rattle.screen.specs.Verdict.{Screened}
 use Rattle.screen.specs.Faultless.{NoFault}
 use Rattle.screen.proofs.Exact.{yes_says}
@@ -35,14 +34,14 @@ use Rattle.ours.proofs.OwnJumps.{no_other_jump}
 use Rattle.ours.proofs.Landing.{lands_on_last, no_target_lem, too_far_lem}
 use Rattle.tracepoint.specs.Compile.{on_landing, on_laid, on_collected, lowering, lowering_of, roomed, compile_answer}
 use Rattle.tracepoint.specs.declared.Fault.TheVariants.{NoTarget, TooFar}
-use Rattle.tracepoint.specs.declared.Compiled.TheVariants.{Done, Refused}
 use Rattle.proved.specs.Compiled.{code_written, relocs_written, context_of, Wrote}
 use Rattle.proved.specs.Ours.{FrameAccesses, Ours}
 use Rattle.proved.proofs.Done.{wrote, has_read}
+use Rattle.std.specs.Prelude.{Err, Ok}
 
 -- ---- accesses through R10, by rule 35
 
-pub frame_accesses : (b l : List ℕ) → judged b l ≡ Ss.Fine → FrameAccesses b
+pub frame_accesses : (b l : List ℕ) → judged b l ≡ Ok tt → FrameAccesses b
 unfolding access_ok uses
 frame_accesses b l j =
     let F = judged_fine b l j in
@@ -52,12 +51,12 @@ frame_accesses b l j =
     }
 
 -- so in code to which the screen says yes
-pub yes_accesses : (b l t u : List ℕ) → Screened b l t Yes u → FrameAccesses b
+pub yes_accesses : (b l t u : List ℕ) → Screened b l t (Ok tt) u → FrameAccesses b
 yes_accesses b l t u p = frame_accesses b l (yes_says b l t u p).0.1.0
 
 -- ---- a call that is done
 
-module _ (b code relocs : List ℕ) (n m : ℕ) (done : compile_answer b (length code) (length relocs) ≡ Done n m) (u : UnitIr) (read : parse b ≡ parsed u) where
+module _ (b code relocs : List ℕ) (n m : ℕ) (done : compile_answer b (length code) (length relocs) ≡ Ok (n, m)) (u : UnitIr) (read : parse b ≡ parsed u) where
   left : Wrote b code relocs n m u
   left = wrote b code relocs n m done u read
 
@@ -76,7 +75,7 @@ module _ (b code relocs : List ℕ) (n m : ℕ) (done : compile_answer b (length
       let L = W.lowers in
       rw (W.code_is, W.relocs_are, ← L.begins) (unit_past_end u (context_of u L.variables) W.ops none L.becomes)
 
-  fine : Dec (length u.blocks ≡ 0) → judged (code_written b code relocs n) (relocs_written b code relocs m) ≡ Ss.Fine
+  fine : Dec (length u.blocks ≡ 0) → judged (code_written b code relocs n) (relocs_written b code relocs m) ≡ Ok tt
   fine (yes none) = (only_past_end none).before
   fine (no some) = (no_fault (omega arith)).1.0
 
@@ -111,7 +110,7 @@ module _ (b code relocs : List ℕ) (n m : ℕ) (done : compile_answer b (length
       }
 
 -- it has read its unit, and what it wrote is what is promised of that
-pub ours : (b code relocs : List ℕ) (n m : ℕ) → compile_answer b (length code) (length relocs) ≡ Done n m
+pub ours : (b code relocs : List ℕ) (n m : ℕ) → compile_answer b (length code) (length relocs) ≡ Ok (n, m)
     → (u : UnitIr) × ((parse b ≡ parsed u) × Ours u n (code_written b code relocs n) (relocs_written b code relocs m))
 ours b code relocs n m done =
     let r = has_read b (length code) (length relocs) n m done in
@@ -127,12 +126,12 @@ module _ (b : List ℕ) (code relocs : ℕ) (u : UnitIr) (vs : List ℕ) (l : Li
   decided y e = rw (read, c, o, e)
 
   -- no emitted block has the id: 18 with the place of the jump's terminator and the id
-  pub no_target_refused : (x : Jump) → FirstAtFault (context_of u vs) (emitted u.blocks) x → NoneHas (emitted u.blocks) x.id → compile_answer b code relocs ≡ Refused (NoTarget x.place x.id)
+  pub no_target_refused : (x : Jump) → FirstAtFault (context_of u vs) (emitted u.blocks) x → NoneHas (emitted u.blocks) x.id → compile_answer b code relocs ≡ Err (NoTarget x.place x.id)
   unfolding on_landing roomed
   no_target_refused x first none = decided _ (no_target_lem (context_of u vs) (emitted u.blocks) x first none)
 
   -- the last that has it is too far: 19 with the same
   pub too_far_refused : (x : Jump) → FirstAtFault (context_of u vs) (emitted u.blocks) x → (last : LastBlock (emitted u.blocks) x.id)
-      → (InRange (distance (begins (context_of u vs) last.front) x.own) → ⊥) → compile_answer b code relocs ≡ Refused (TooFar x.place x.id)
+      → (InRange (distance (begins (context_of u vs) last.front) x.own) → ⊥) → compile_answer b code relocs ≡ Err (TooFar x.place x.id)
   unfolding on_landing roomed
   too_far_refused x first last far = decided _ (too_far_lem (context_of u vs) (emitted u.blocks) x first last far)

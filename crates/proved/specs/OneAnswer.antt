@@ -60,6 +60,7 @@ pub record OneAnswer : Type 0 where
   pub wire_get_i16 : DecidesAnswer wire.get_i16.Reads.Post
   pub wire_get_i32 : DecidesAnswer wire.get_i32.Reads.Post
   pub wire_get_i64 : DecidesAnswer wire.get_i64.Reads.Post
+  pub wire_put_bytes : Decides wire.put_bytes.Reads.Post (λ κ r (b, _). b.now)
   pub wire_put_u8 : Decides wire.put_u8.Reads.Post (λ κ r (b, _). b.now)
   pub wire_put_u16 : Decides wire.put_u16.Reads.Post (λ κ r (b, _). b.now)
   pub wire_put_u32 : Decides wire.put_u32.Reads.Post (λ κ r (b, _). b.now)
@@ -128,19 +129,17 @@ pub record OneAnswer : Type 0 where
   pub unitfile_map_name : Decides unitfile.map_name.Reads.Post (λ κ r s. pointed r)
   pub unitfile_map_named : DecidesAnswer unitfile.map_named.Reads.Post
   pub recordparts_terminator_in : DecidesAnswer recordparts.terminator.terminator_in.Reads.Post
-  pub frame_scratch : DecidesAnswer frame.scratch.Reads.Post
-  pub frame_index_at : DecidesAnswer frame.hint.index_at.Reads.Post
-  pub frame_cell_at : DecidesAnswer frame.hint.cell_at.Reads.Post
+  pub frame_scratch : DecidesAnswer frame.hint.Frame.scratch.Reads.Post
+  pub frame_index : DecidesAnswer frame.hint.Frame.index.Reads.Post
+  pub frame_cell : DecidesAnswer frame.hint.Frame.cell.Reads.Post
   pub frame_put_hints : Decides frame.hint.put_hints.Reads.Post (λ κ r (_, (hints, _)). hints.now)
   pub frame_insert : Decides frame.insert.Reads.Post (λ κ r (variables, _). r and variables.now)
-  pub frame_fixed : DecidesAnswer frame.fixed.Reads.Post
   pub sort_sort : Decides sort.sort.Reads.Post (λ κ r (keys, _). keys.now)
   pub flow_link : Decides flow.link.Reads.Post (λ κ r (_, (_, (_, (targets, (emitted, _))))). targets.now and emitted.now)
   pub survey_survey_unit : Decides survey.survey_unit.Reads.Post (λ κ r (_, (variables, (ids, (endings, _)))). r and variables.now and ids.now and endings.now)
   pub lower_lower_instruction : Decides lower.lower_instruction.Reads.Post (λ κ r (code, _). r and code.now)
   pub lower_scratch_after : DecidesAnswer lower.scratch_after.Reads.Post
   pub lower_lower_terminator : DecidesAnswer lower.lower_terminator.Reads.Post
-  pub lower_refused : DecidesAnswer lower.refused.Reads.Post
   pub size_size_instruction : DecidesAnswer size.size_instruction.Reads.Post
   pub jumps_distance : DecidesAnswer jumps.distance.Reads.Post
   pub jumps_check_jumps : DecidesAnswer jumps.check_jumps.Reads.Post
@@ -148,9 +147,11 @@ pub record OneAnswer : Type 0 where
   pub tracepoint_compile_tracepoint : Decides tracepoint.compile_tracepoint.Reads.Post (λ κ r (_, (code, (relocs, _))). r and code.now and relocs.now)
   pub shape_length_ok : DecidesAnswer shape.length_ok.Reads.Post
   pub shape_instruction_at : DecidesAnswer shape.slot.instruction_at.Reads.Post
+  pub shape_target : DecidesAnswer shape.slot.target.Reads.Post
   pub shape_judge : DecidesAnswer shape.judge.Reads.Post
-  pub worklist_mark : Decides worklist.mark.Reads.Post (λ κ r (d, (s, _)). r and d.now and s.now)
-  pub worklist_take : Decides worklist.take.Reads.Post (λ κ r (d, (s, _)). r and d.now and s.now)
+  pub worklist_new : Decides worklist.Worklist.new.Reads.Post (λ κ r lent. r.top and r.mid and r.low)
+  pub worklist_mark : Decides worklist.Worklist.mark.Reads.Post (λ κ r (w, _). w.now.top and w.now.mid and w.now.low)
+  pub worklist_take : Decides worklist.Worklist.take.Reads.Post (λ κ r (w, _). r and w.now.top and w.now.mid and w.now.low)
   pub paths_analyse : Decides paths.analyse.Reads.Post (λ κ r (_, (table, _)). r and table.now)
   pub paths_read_mask : DecidesAnswer paths.read_mask.Reads.Post
   pub screen_refusal : DecidesAnswer screen.refusal.Reads.Post

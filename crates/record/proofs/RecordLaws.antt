@@ -7,6 +7,7 @@ use native.Mathlib.Omega.{arith}
 use borrow.Author.Tests.{eqb-true, leb-true}
 use lib.Dec.{eqb, leb}
 use lib.ListN.{length}
+use Rattle.std.proofs.lemmas.Bool.Decides.{nat_tests}
 use Rattle.wire.specs.Pick.{pick, both}
 use Rattle.ir.specs.declared.Opcode.{Opcode}
 use Rattle.ir.specs.declared.Instruction.{Instruction}
@@ -20,21 +21,13 @@ use Rattle.record.specs.declared.Record.{Record}
 use Rattle.record.specs.declared.Record.TheVariants as R
 use Rattle.record.specs.declared.Due.{Due}
 use Rattle.record.specs.declared.Due.TheVariants as Du
-use Rattle.record.specs.declared.Read.{Read}
-use Rattle.record.specs.declared.Read.TheVariants as Re
 use Rattle.opcode.specs.declared.Fields.{Fields}
-use Rattle.opcode.specs.declared.ReadOpcode.{ReadOpcode}
-use Rattle.opcode.specs.declared.ReadOpcode.TheVariants as O
-use Rattle.operand.specs.declared.ReadOperands.{ReadOperands}
-use Rattle.operand.specs.declared.ReadOperands.TheVariants as L
-use Rattle.record.specs.declared.instruction.ReadInstruction.{ReadInstruction}
-use Rattle.record.specs.declared.instruction.ReadInstruction.TheVariants as I
-use Rattle.record.specs.declared.terminator.ReadTerminator.{ReadTerminator}
-use Rattle.record.specs.declared.terminator.ReadTerminator.TheVariants as T
-use Rattle.record.specs.declared.payload.Payload.{Payload}
-use Rattle.record.specs.declared.payload.Payload.TheVariants as P
 use Rattle.record.proofs.Frames.{ends_inside}
 use Rattle.opcode.proofs.Opcodes.{both_true, opcode_has}
+use Rattle.ir.specs.declared.Terminator.{Terminator}
+use Rattle.ir.specs.declared.operands.Operands.{Operands}
+use Rattle.record.specs.declared.Fault.{Fault}
+use Rattle.std.specs.Prelude.{Err, None, Ok, Option, Result, Some}
 
 -- ---- a head's bounds
 
@@ -45,10 +38,7 @@ pub record Bounds (h : Head) : Type 0 where
 
 pub head_bounds : (h : Head) → head_ok h ≡ true → Bounds h
 unfolding head_ok
-head_bounds h e =
-    let first = both_true _ _ e in
-    let rest = both_true _ _ first.1 in
-    record { edition = eqb-true _ _ first.0; maps = leb-true _ _ rest.0; blocks = leb-true _ _ rest.1 }
+head_bounds h e = record { edition = grind (arith, nat_tests); maps = grind (arith, nat_tests); blocks = grind (arith, nat_tests) }
 
 -- ---- which records can come
 
@@ -81,26 +71,26 @@ pub record Taken (b : List ℕ) (at : ℕ) (due : Due) (maps : ℕ) (r : Record)
   pub within : next ≤ length b
   pub ends : next ≡ next_at b at
   pub kind : kind_due due (kind_at b at) ≡ true
-  pub payload : payload_at (kind_at b at) b (at + 4) (length_at b at) maps ≡ P.Is r
+  pub payload : payload_at (kind_at b at) b (at + 4) (length_at b at) maps ≡ Some r
   pub came : Came maps (at + 4) next due r
 
 -- ---- a property of what was read, where something was
 
-abbrev IfOpcode : (Opcode → Type 0) → ReadOpcode → Type 0
-IfOpcode Q (O.Is o) = Q o
-IfOpcode Q O.Broken = Unit {0}
+abbrev IfOpcode : (Opcode → Type 0) → Option Opcode → Type 0
+IfOpcode Q (Some o) = Q o
+IfOpcode Q None = Unit {0}
 
-abbrev IfInstruction : (Instruction → Type 0) → ReadInstruction → Type 0
-IfInstruction Q (I.Is i) = Q i
-IfInstruction Q I.Broken = Unit {0}
+abbrev IfInstruction : (Instruction → Type 0) → Option Instruction → Type 0
+IfInstruction Q (Some i) = Q i
+IfInstruction Q None = Unit {0}
 
-abbrev IfPayload : (Record → Type 0) → Payload → Type 0
-IfPayload Q (P.Is r) = Q r
-IfPayload Q P.Broken = Unit {0}
+abbrev IfPayload : (Record → Type 0) → Option Record → Type 0
+IfPayload Q (Some r) = Q r
+IfPayload Q None = Unit {0}
 
-abbrev IfRead : (Record → ℕ → Type 0) → Read → Type 0
-IfRead Q (Re.Record r next) = Q r next
-IfRead Q (Re.Refused f) = Unit {0}
+abbrev IfRead : (Record → ℕ → Type 0) → Result (Record × ℕ) Fault → Type 0
+IfRead Q (Ok (r, next)) = Q r next
+IfRead Q (Err f) = Unit {0}
 
 -- a choice has a property where each side has it that can come
 pub either : {A : Type 0} (Q : A → Type 0) (t : Bool) (x y : A) → (t ≡ true → Q x) → Q y → Q (pick t x y)
@@ -109,27 +99,27 @@ either Q false x y f g = g
 
 -- ---- opcodes
 
-record Below (maps : ℕ) (x : ReadOpcode) : Type 0 where
+record Below (maps : ℕ) (x : Option Opcode) : Type 0 where
   below : IfOpcode (λ o. map_ok maps o ≡ true) x
 
 opcode_below : (maps : ℕ) (f : Fields) → Below maps (opcode_of f maps)
 opcode_below maps f = go (opcode_of f maps) refl
   where
-    go : (x : ReadOpcode) → opcode_of f maps ≡ x → Below maps x
-    go (O.Is o) e = record { below = (opcode_has f maps o e).map }
-    go O.Broken e = record { below = tt }
+    go : (x : Option Opcode) → opcode_of f maps ≡ x → Below maps x
+    go (Some o) e = record { below = (opcode_has f maps o e).map }
+    go None e = record { below = tt }
 
 -- ---- instructions
 
-record MapsBelow (maps : ℕ) (x : ReadInstruction) : Type 0 where
+record MapsBelow (maps : ℕ) (x : Option Instruction) : Type 0 where
   below : IfInstruction (λ i. map_ok maps i.opcode ≡ true) x
 
-joined_below : (maps result : ℕ) (o : ReadOpcode) (l : ReadOperands) → Below maps o → MapsBelow maps (joined result o l)
+joined_below : (maps result : ℕ) (o : Option Opcode) (l : Option Operands) → Below maps o → MapsBelow maps (joined result o l)
 unfolding joined
-joined_below maps result (O.Is o) (L.Is l) h = record { below = h.below }
-joined_below maps result (O.Is o) L.Broken h = record { below = tt }
-joined_below maps result O.Broken (L.Is l) h = record { below = tt }
-joined_below maps result O.Broken L.Broken h = record { below = tt }
+joined_below maps result (Some o) (Some l) h = record { below = h.below }
+joined_below maps result (Some o) None h = record { below = tt }
+joined_below maps result None (Some l) h = record { below = tt }
+joined_below maps result None None h = record { below = tt }
 
 instruction_below : (maps : ℕ) (b : List ℕ) (at len : ℕ) → MapsBelow maps (instruction_at b at len maps)
 unfolding instruction_at
@@ -137,11 +127,11 @@ instruction_below maps b at len = either (MapsBelow maps) (sized b at len) _ _ (
 
 -- ---- payloads
 
-record Comes (maps start next : ℕ) (due : Due) (p : Payload) : Type 0 where
+record Comes (maps start next : ℕ) (due : Due) (p : Option Record) : Type 0 where
   comes : IfPayload (Came maps start next due) p
 
 module _ (maps : ℕ) (b : List ℕ) (start len : ℕ) where
-  abbrev Here : Due → Payload → Type 0
+  abbrev Here : Due → Option Record → Type 0
   Here due p = Comes maps start (start + len) due p
 
   head_comes : Here Du.Head (payload_at 1 b start len maps)
@@ -158,15 +148,15 @@ module _ (maps : ℕ) (b : List ℕ) (start len : ℕ) where
   unfolding payload_at
   block_comes = either (Here Du.Block) (eqb len 4) _ _ (λ e. record { comes = tt }) (record { comes = tt })
 
-  instruction_comes : (x : ReadInstruction) → MapsBelow maps x → Here Du.Inside (of_instruction x)
+  instruction_comes : (x : Option Instruction) → MapsBelow maps x → Here Du.Inside (of_instruction x)
   unfolding of_instruction
-  instruction_comes (I.Is i) h = record { comes = h.below }
-  instruction_comes I.Broken h = record { comes = tt }
+  instruction_comes (Some i) h = record { comes = h.below }
+  instruction_comes None h = record { comes = tt }
 
-  terminator_comes : (x : ReadTerminator) → Here Du.Inside (of_terminator x)
+  terminator_comes : (x : Option Terminator) → Here Du.Inside (of_terminator x)
   unfolding of_terminator
-  terminator_comes (T.Is t) = record { comes = tt }
-  terminator_comes T.Broken = record { comes = tt }
+  terminator_comes (Some t) = record { comes = tt }
+  terminator_comes None = record { comes = tt }
 
   kind_4_comes : Here Du.Inside (payload_at 4 b start len maps)
   unfolding payload_at
@@ -190,15 +180,15 @@ module _ (maps : ℕ) (b : List ℕ) (start len : ℕ) where
 -- ---- records
 
 module _ (b : List ℕ) (at : ℕ) (due : Due) (maps : ℕ) where
-  record Reads (x : Read) : Type 0 where
+  record Reads (x : Result (Record × ℕ) Fault) : Type 0 where
     reads : IfRead (λ r next. Taken b at due maps r next) x
 
-  on_payload_lem : whole_at b at ≡ true → kind_due due (kind_at b at) ≡ true → (p : Payload) → payload_at (kind_at b at) b (at + 4) (length_at b at) maps ≡ p → Comes maps (at + 4) (next_at b at) due p → Reads (on_payload due at (next_at b at) p)
+  on_payload_lem : whole_at b at ≡ true → kind_due due (kind_at b at) ≡ true → (p : Option Record) → payload_at (kind_at b at) b (at + 4) (length_at b at) maps ≡ p → Comes maps (at + 4) (next_at b at) due p → Reads (on_payload due at (next_at b at) p)
   unfolding whole_at next_at on_payload
-  on_payload_lem w k (P.Is r) e h =
+  on_payload_lem w k (Some r) e h =
       let inside = ends_inside (length b) at (length_at b at) w in
       record { reads = record { later = omega arith; within = inside; ends = refl; kind = k; payload = e; came = h.comes } }
-  on_payload_lem w k P.Broken e h = record { reads = tt }
+  on_payload_lem w k None e h = record { reads = tt }
 
   record_reads : Reads (read_record b at due maps)
   unfolding read_record next_at
@@ -207,5 +197,5 @@ module _ (b : List ℕ) (at : ℕ) (due : Due) (maps : ℕ) where
       (λ w. either Reads (kind_due due (kind_at b at)) _ _ (λ k. on_payload_lem w k _ refl (payload_comes maps b (at + 4) (length_at b at) due (kind_at b at) k)) (record { reads = tt }))
       (record { reads = tt })
 
-  pub record_taken : (r : Record) (next : ℕ) → read_record b at due maps ≡ Re.Record r next → Taken b at due maps r next
+  pub record_taken : (r : Record) (next : ℕ) → read_record b at due maps ≡ Ok (r, next) → Taken b at due maps r next
   record_taken r next e = (subst Reads e record_reads).reads

@@ -1,18 +1,15 @@
 -- An instruction's payload: u32 result, u8 opcode, u8 small, u8 operand count k (0 to 8), u8 zero, i32 offset, u32 number, k operands.
-use Rattle.std.specs.Prelude.{ℕ, ◌+◌, ◌*◌, Bool, List, eqb, leb, pos, length}
+use Rattle.std.specs.Prelude.{ℕ, ◌+◌, ◌*◌, Bool, List, eqb, leb, pos, length, None, Option, Some}
 use Rattle.std.specs.Int.{w32}
 use Rattle.wire.specs.Pick.{pick, both}
 use Rattle.wire.specs.Le.{byte_at, unsigned_at, signed_at}
 use Rattle.ir.specs.declared.operands.Operands.TheVariants.{Zero}
 use Rattle.operand.specs.Operand.{operands_at}
 use Rattle.opcode.specs.Opcode.{opcode_of}
-use Rattle.operand.specs.declared.ReadOperands.{ReadOperands}
-use Rattle.operand.specs.declared.ReadOperands.TheVariants as L
 use Rattle.opcode.specs.declared.Fields.{Fields}
-use Rattle.opcode.specs.declared.ReadOpcode.{ReadOpcode}
-use Rattle.opcode.specs.declared.ReadOpcode.TheVariants as C
-use Rattle.record.specs.declared.instruction.ReadInstruction.{ReadInstruction}
-use Rattle.record.specs.declared.instruction.ReadInstruction.TheVariants as I
+use Rattle.ir.specs.declared.Instruction.{Instruction}
+use Rattle.ir.specs.declared.Opcode.{Opcode}
+use Rattle.ir.specs.declared.operands.Operands.{Operands}
 
 -- the four fields
 unfoldable pub fields_in : List ℕ → ℕ → Fields
@@ -25,11 +22,11 @@ fields_within b at = pick (leb (at + 16) (length b)) (fields_in b at) (record { 
 unfoldable pub count_in : List ℕ → ℕ → ℕ
 count_in b at = byte_at b (at + 6)
 
-unfoldable pub joined : ℕ → ReadOpcode → ReadOperands → ReadInstruction
-joined result (C.Is o) (L.Is l) = I.Is (record { result = result; opcode = o; operands = l })
-joined result (C.Is o) L.Broken = I.Broken
-joined result C.Broken (L.Is l) = I.Broken
-joined result C.Broken L.Broken = I.Broken
+unfoldable pub joined : ℕ → Option Opcode → Option Operands → Option Instruction
+joined result (Some o) (Some l) = Some (record { result = result; opcode = o; operands = l })
+joined result (Some o) None = None
+joined result None (Some l) = None
+joined result None None = None
 
 -- the payload of len bytes at a byte is as long as its operand count asks, and has its zero
 unfoldable pub sized : List ℕ → ℕ → ℕ → Bool
@@ -39,6 +36,6 @@ sized b at len = both (leb 16 len) (both (leb (count_in b at) 8) (both (eqb len 
 unfoldable pub sized_within : List ℕ → ℕ → ℕ → Bool
 sized_within b at len = both (leb (at + len) (length b)) (sized b at len)
 
-unfoldable pub instruction_at : List ℕ → ℕ → ℕ → ℕ → ReadInstruction
+unfoldable pub instruction_at : List ℕ → ℕ → ℕ → ℕ → Option Instruction
 instruction_at b at len maps =
-    pick (sized b at len) (joined (unsigned_at w32 b at) (opcode_of (fields_in b at) maps) (operands_at Zero b (at + 16) (count_in b at))) I.Broken
+    pick (sized b at len) (joined (unsigned_at w32 b at) (opcode_of (fields_in b at) maps) (operands_at Zero b (at + 16) (count_in b at))) None

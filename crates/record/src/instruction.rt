@@ -1,35 +1,21 @@
 // An instruction's payload.
+#![tactic(auto, using(std::proofs::lemmas::Bool::Decides::nat_tests), unfolding(crate::specs::Instruction::sized_within, crate::specs::Instruction::sized, crate::specs::Instruction::count_in, crate::specs::Instruction::fields_within, crate::specs::Instruction::fields_in, crate::specs::Instruction::instruction_at, crate::specs::Instruction::joined))]
+
 ghost use Rattle.std.specs.Prelude.{◌≡◌, ◌+◌, ◌≤◌, length};
 ghost use Rattle.record.specs.Instruction.{fields_within, sized_within, instruction_at};
 
 use ir::Instruction;
-use opcode::{Fields, ReadOpcode};
-use operand::ReadOperands;
-
-#[derive(Drop)]
-pub enum ReadInstruction {
-    Is(Instruction),
-    Broken,
-}
+use opcode::Fields;
 
 // Whether the payload of len bytes at a byte lies in the bytes, is as long as its operand count asks, and has its zero.
 pub fn sized_within(s: &[u8], at: usize, len: usize) -> bool
     ensures { result ≡ sized_within s.now at len }
 {
-    if wire::lies(at, len, s.len()) {
-        if len < 16 {
-            return false;
-        }
-        let count = s[at + 6];
-        if 8 < count {
-            return false;
-        }
-        if len != 16 + 9 * (count as usize) {
-            return false;
-        }
-        return s[at + 7] == 0;
-    }
-    false
+    wire::lies(at, len, s.len())
+        && 16 <= len
+        && s[at + 6] <= 8
+        && len == 16 + 9 * usize::from(s[at + 6])
+        && s[at + 7] == 0
 }
 
 // The four fields of a payload; zeros where it does not lie in the bytes.
@@ -53,22 +39,18 @@ pub fn fields_within(s: &[u8], at: usize) -> Fields
 }
 
 // The payload of len bytes at a byte, in a unit of so many maps.
-pub(crate) fn instruction_at(s: &[u8], at: usize, len: usize, maps: u16) -> ReadInstruction
+pub(crate) fn instruction_at(s: &[u8], at: usize, len: usize, maps: u16) -> Option<Instruction>
     requires { at + len ≤ length s.now }
     ensures { result ≡ instruction_at s.now at len maps }
 {
-    if sized_within(s, at, len) {
-        let ReadOpcode::Is(o) = opcode::opcode_of(fields_within(s, at), maps) else {
-            return ReadInstruction::Broken;
-        };
-        let ReadOperands::Is(list) = operand::operands_at(s, at + 16, s[at + 6]) else {
-            return ReadInstruction::Broken;
-        };
-        return ReadInstruction::Is(Instruction {
-            result: wire::get_u32(s, at),
-            opcode: o,
-            operands: list,
-        });
+    if !sized_within(s, at, len) {
+        return None;
     }
-    ReadInstruction::Broken
+    let opcode = opcode::opcode_of(fields_within(s, at), maps)?;
+    let operands = operand::operands_at(s, at + 16, s[at + 6])?;
+    Some(Instruction {
+        result: wire::get_u32(s, at),
+        opcode,
+        operands,
+    })
 }

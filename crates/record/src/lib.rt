@@ -2,16 +2,16 @@
 #![tactic(auto)]
 
 pub mod instruction;
+pub mod kinds;
 pub mod payload;
 pub mod terminator;
 
 ghost use Rattle.std.specs.Prelude.{false, ◌≡◌, ◌+◌, leb};
 ghost use Rattle.wire.specs.Pick.{pick};
 ghost use Rattle.record.specs.Payload.{kind_of};
-ghost use Rattle.record.specs.Record.{read_record, refusal_of, kind_due, not_due, broken};
+ghost use Rattle.record.specs.Record.{read_record, refusal_of, kind_due, refused_as};
 
 use ir::{Instruction, Terminator};
-use payload::Payload;
 use wire::refusal::Refusal;
 
 #[derive(Clone, Copy)]
@@ -50,6 +50,7 @@ pub enum Fault {
     Broken(usize),
 }
 
+#[tactic(auto, unfolding(crate::specs::Record::refusal_of))]
 pub fn refusal(f: Fault) -> Refusal
     ensures { result ≡ refusal_of f }
 {
@@ -82,93 +83,66 @@ pub fn refusal(f: Fault) -> Refusal
     }
 }
 
-// A record and the byte after it, or the refusal.
-#[derive(Drop)]
-pub enum Read {
-    Record(Record, usize),
-    Refused(Fault),
-}
-
 // Whether a record whose length is len lies whole in size bytes.
+#[tactic(auto, using(std::proofs::lemmas::Bool::Decides::nat_tests))]
 pub fn whole(size: usize, at: usize, len: usize) -> bool
     ensures { result ≡ pick (leb (at + 4) size) (leb (at + 4 + len) size) false }
 {
-    if size < 4 {
-        return false;
-    }
-    if size - 4 < at {
-        return false;
-    }
-    len <= size - 4 - at
+    4 <= size && at <= size - 4 && len <= size - 4 - at
 }
 
 // The kind of the record that has a value.
+#[tactic(auto, unfolding(crate::specs::Payload::kind_of))]
 pub fn kind(value: Record) -> u16
     ensures { result ≡ kind_of value }
 {
     match value {
-        Record::Head(_) => 1,
-        Record::Map { start: _, len: _ } => 2,
-        Record::Block(_) => 3,
-        Record::Instruction(_) => 4,
-        Record::Terminator(_) => 5,
+        Record::Head(_) => kinds::HEAD,
+        Record::Map { .. } => kinds::MAP,
+        Record::Block(_) => kinds::BLOCK,
+        Record::Instruction(_) => kinds::INSTRUCTION,
+        Record::Terminator(_) => kinds::TERMINATOR,
     }
 }
 
 // Whether the kind is the one due.
+#[tactic(auto, unfolding(crate::specs::Record::kind_due))]
 fn kind_due(due: Due, kind: u16) -> bool
     ensures { result ≡ kind_due due kind }
 {
     match due {
-        Due::Head => kind == 1,
-        Due::Map => kind == 2,
-        Due::Block => kind == 3,
-        Due::Inside => {
-            if kind == 4 {
-                return true;
-            }
-            kind == 5
-        }
+        Due::Head => kind == kinds::HEAD,
+        Due::Map => kind == kinds::MAP,
+        Due::Block => kind == kinds::BLOCK,
+        Due::Inside => kind == kinds::INSTRUCTION || kind == kinds::TERMINATOR,
     }
 }
 
 // Where the head is due, what is no valid head is 3: by its kind, and by its payload.
-fn not_due(due: Due, at: usize) -> Fault
-    ensures { result ≡ not_due due at }
+fn refused_as(due: Due, fault: Fault) -> Fault
+    ensures { result ≡ refused_as due fault }
 {
     match due {
         Due::Head => Fault::NoHead,
-        Due::Map => Fault::NotDue(at),
-        Due::Block => Fault::NotDue(at),
-        Due::Inside => Fault::NotDue(at),
-    }
-}
-
-fn broken(due: Due, at: usize) -> Fault
-    ensures { result ≡ broken due at }
-{
-    match due {
-        Due::Head => Fault::NoHead,
-        Due::Map => Fault::Broken(at),
-        Due::Block => Fault::Broken(at),
-        Due::Inside => Fault::Broken(at),
+        _ => fault,
     }
 }
 
 // The record that is due at a byte of the unit, in a unit of so many maps.
-pub fn read_record(s: &[u8], at: usize, due: Due, maps: u16) -> Read
+#[tactic(auto, using(crate::proofs::Frames::ends_inside), unfolding(crate::specs::Record::read_record, crate::specs::Record::on_payload, crate::specs::Record::not_due, crate::specs::Record::broken, crate::specs::Frame::whole_at, crate::specs::Frame::next_at))]
+pub fn read_record(s: &[u8], at: usize, due: Due, maps: u16) -> Result<(Record, usize), Fault>
     ensures { result ≡ read_record s.now at due maps }
 {
     let len = wire::get_u16(s, at) as usize;
     if whole(s.len(), at, len) {
         let kind = wire::get_u16(s, at + 2);
         if kind_due(due, kind) {
-            let Payload::Is(value) = payload::payload_at(s, kind, at + 4, len, maps) else {
-                return Read::Refused(broken(due, at));
+            let Some(value) = payload::payload_at(s, kind, at + 4, len, maps) else {
+                return Err(refused_as(due, Fault::Broken(at)));
             };
-            return Read::Record(value, at + 4 + len);
+            return Ok((value, at + 4 + len));
         }
-        return Read::Refused(not_due(due, at));
+        return Err(refused_as(due, Fault::NotDue(at)));
     }
-    Read::Refused(Fault::Cut(at))
+    Err(Fault::Cut(at))
 }

@@ -1,27 +1,16 @@
 // A payload of each kind.
+#![tactic(auto, using(std::proofs::lemmas::Bool::Decides::nat_tests), unfolding(crate::specs::Payload::head_in, crate::specs::Payload::head_ok, crate::specs::Payload::payload_at, crate::specs::Payload::of_instruction, crate::specs::Payload::of_terminator))]
+
 ghost use Rattle.std.specs.Prelude.{◌≡◌, ◌+◌, ◌≤◌, length};
 ghost use Rattle.record.specs.Payload.{head_in, head_ok, payload_at};
 
-use crate::instruction::ReadInstruction;
-use crate::terminator::ReadTerminator;
-use crate::{Head, Record, instruction, terminator};
-
-#[derive(Drop)]
-pub enum Payload {
-    Is(Record),
-    Broken,
-}
+use crate::{Head, Record, instruction, kinds, terminator};
 
 // Edition 1, 0 to 64 maps, 0 to 1,024 blocks.
 pub fn head_ok(h: Head) -> bool
     ensures { result ≡ head_ok h }
 {
-    if h.edition == 1 {
-        if h.maps <= 64 {
-            return h.blocks <= 1024;
-        }
-    }
-    false
+    h.edition == 1 && h.maps <= 64 && h.blocks <= 1024
 }
 
 // A head's numbers.
@@ -37,47 +26,39 @@ fn head_in(s: &[u8], at: usize) -> Head
 }
 
 // The payload of len bytes at a byte, in a unit of so many maps.
-pub(crate) fn payload_at(s: &[u8], kind: u16, at: usize, len: usize, maps: u16) -> Payload
+pub(crate) fn payload_at(s: &[u8], kind: u16, at: usize, len: usize, maps: u16) -> Option<Record>
     requires { at + len ≤ length s.now }
     ensures { result ≡ payload_at kind s.now at len maps }
 {
     match kind {
-        1 => {
+        kinds::HEAD => {
             if len == 8 {
                 let head = head_in(s, at);
                 if head_ok(head) {
-                    return Payload::Is(Record::Head(head));
+                    return Some(Record::Head(head));
                 }
             }
-            Payload::Broken
+            None
         }
-        2 => {
+        kinds::MAP => {
             if len <= 64 {
-                return Payload::Is(Record::Map {
+                return Some(Record::Map {
                     start: at,
                     len: len,
                 });
             }
-            Payload::Broken
+            None
         }
-        3 => {
+        kinds::BLOCK => {
             if len == 4 {
-                return Payload::Is(Record::Block(wire::get_u32(s, at)));
+                return Some(Record::Block(wire::get_u32(s, at)));
             }
-            Payload::Broken
+            None
         }
-        4 => {
-            let ReadInstruction::Is(i) = instruction::instruction_at(s, at, len, maps) else {
-                return Payload::Broken;
-            };
-            Payload::Is(Record::Instruction(i))
+        kinds::INSTRUCTION => {
+            Some(Record::Instruction(instruction::instruction_at(s, at, len, maps)?))
         }
-        5 => {
-            let ReadTerminator::Is(t) = terminator::terminator_at(s, at, len) else {
-                return Payload::Broken;
-            };
-            Payload::Is(Record::Terminator(t))
-        }
-        _ => Payload::Broken,
+        kinds::TERMINATOR => { Some(Record::Terminator(terminator::terminator_at(s, at, len)?)) }
+        _ => None,
     }
 }

@@ -22,18 +22,16 @@ use Rattle.wire.specs.Range.{fits32}
 use Rattle.opcode.specs.Opcode.{fields_of as opcodeFields, small_of, map_ok}
 use Rattle.opcode.proofs.Opcodes.{opcode_written}
 use Rattle.opcode.specs.declared.Fields.{Fields}
-use Rattle.opcode.specs.declared.ReadOpcode.TheVariants as RO
 use Rattle.operand.specs.Operand.{on_operand}
-use Rattle.operand.specs.declared.ReadOperand.TheVariants as O
 use Rattle.record.specs.Instruction.{joined}
 use Rattle.record.specs.Terminator.{returning, branching}
 use Rattle.record.specs.Payload.{of_instruction, of_terminator}
 use Rattle.record.specs.declared.Record.{Record}
 use Rattle.record.specs.declared.Record.TheVariants as R
-use Rattle.record.specs.declared.payload.Payload.TheVariants as P
 use Rattle.recordwriter.specs.Typed.{TypedOperand, TypedOperands, TypedOpcode, Typed}
 use Rattle.recordfields.specs.Fields.{tag_of, value_of, operands_numbers, instruction_numbers, terminator_numbers, record_numbers, padded, fields_of}
 use Rattle.recordfields.specs.Meant.{operand_from, operands_from, opcode_from, head_from, block_from, instruction_from, jump_from, branch_from, terminator_from, record_from, MapsOk}
+use Rattle.std.specs.Prelude.{Some}
 
 -- ---- an opcode
 
@@ -72,7 +70,7 @@ within maps (C.RingBufReserve n size) h m t =
 within maps (C.RingBufSubmit n) h m t = record { code = omega arith; small = omega arith; offset = omega arith; number = t.fits }
 
 module _ (maps : ℕ) (o : Opcode) (h : maps < 65536) (m : map_ok maps o ≡ true) (t : TypedOpcode o) where
-  opcode_back : opcode_from maps (opcodeFields o).code (opcodeFields o).small (of_z w64 (opcodeFields o).offset) (opcodeFields o).number ≡ RO.Is o
+  opcode_back : opcode_from maps (opcodeFields o).code (opcodeFields o).small (of_z w64 (opcodeFields o).offset) (opcodeFields o).number ≡ Some o
   unfolding opcode_from fits32
   opcode_back =
       let g = within maps o h m t in
@@ -82,15 +80,15 @@ module _ (maps : ℕ) (o : Opcode) (h : maps < 65536) (m : map_ok maps o ≡ tru
 
 -- ---- operands
 
-operand_back : (o : Operand) → TypedOperand o → operand_from (tag_of o) (value_of o) ≡ O.Is o
+operand_back : (o : Operand) → TypedOperand o → operand_from (tag_of o) (value_of o) ≡ Some o
 unfolding operand_from tag_of value_of
 operand_back (Var v) t = rw (lt-ltb v (2 ^ 32) t.fits)
 operand_back (Immediate z) t = rw (to_z-of_z w64 z t)
 
 -- ---- records
 
-module _ (maps result : ℕ) (o : Opcode) (few : result < 2 ^ 32) (same : opcode_from maps (opcodeFields o).code (opcodeFields o).small (of_z w64 (opcodeFields o).offset) (opcodeFields o).number ≡ RO.Is o) where
-  instruction_back : (l : Operands) → TypedOperands (list_of l) → record_from maps (padded (instruction_numbers result (opcodeFields o) (list_of l))) ≡ P.Is (R.Instruction (record { result = result; opcode = o; operands = l }))
+module _ (maps result : ℕ) (o : Opcode) (few : result < 2 ^ 32) (same : opcode_from maps (opcodeFields o).code (opcodeFields o).small (of_z w64 (opcodeFields o).offset) (opcodeFields o).number ≡ Some o) where
+  instruction_back : (l : Operands) → TypedOperands (list_of l) → record_from maps (padded (instruction_numbers result (opcodeFields o) (list_of l))) ≡ Some (R.Instruction (record { result = result; opcode = o; operands = l }))
   unfolding record_from instruction_from list_of operands_from on_operand padded instruction_numbers operands_numbers pushed joined of_instruction
   instruction_back Zero t = rw (lt-ltb result (2 ^ 32) few, same)
   instruction_back (One a) t = rw (lt-ltb result (2 ^ 32) few, same, operand_back a t.0)
@@ -102,7 +100,7 @@ module _ (maps result : ℕ) (o : Opcode) (few : result < 2 ^ 32) (same : opcode
   instruction_back (Seven a b c d e p q) t = rw (lt-ltb result (2 ^ 32) few, same, operand_back a t.0, operand_back b t.1.0, operand_back c t.1.1.0, operand_back d t.1.1.1.0, operand_back e t.1.1.1.1.0, operand_back p t.1.1.1.1.1.0, operand_back q t.1.1.1.1.1.1.0)
   instruction_back (Eight a b c d e p q r) t = rw (lt-ltb result (2 ^ 32) few, same, operand_back a t.0, operand_back b t.1.0, operand_back c t.1.1.0, operand_back d t.1.1.1.0, operand_back e t.1.1.1.1.0, operand_back p t.1.1.1.1.1.0, operand_back q t.1.1.1.1.1.1.0, operand_back r t.1.1.1.1.1.1.1.0)
 
-pub fields_back : (maps : ℕ) (r : Record) → maps < 65536 → MapsOk maps r → Typed r → record_from maps (fields_of r) ≡ P.Is r
+pub fields_back : (maps : ℕ) (r : Record) → maps < 65536 → MapsOk maps r → Typed r → record_from maps (fields_of r) ≡ Some r
 unfolding record_from head_from block_from jump_from branch_from terminator_from fields_of record_numbers terminator_numbers padded returning branching of_terminator
 fields_back maps (R.Head h) f m t = rw (lt-ltb h.edition (2 ^ 16) t.0.fits, lt-ltb h.maps (2 ^ 16) t.1.fits, lt-ltb h.blocks (2 ^ 32) t.2.fits)
 fields_back maps (R.Map start len) f m t = refl

@@ -1,3 +1,2 @@
-mod Bits
 mod Pairs
 pub mod Back

@@ -1,4 +1,6 @@
 // Which record 24 numbers mean. Numbers after those that a record uses are not looked at.
+#![tactic(auto, using(std::proofs::lemmas::Bool::Decides::nat_tests), unfolding(crate::specs::Meant::operand_from, crate::specs::Meant::opcode_from, crate::specs::Meant::head_from, crate::specs::Meant::block_from, crate::specs::Meant::instruction_from, crate::specs::Meant::jump_from, crate::specs::Meant::branch_from, crate::specs::Meant::terminator_from, crate::specs::Meant::record_from, record::specs::Terminator::branching, record::specs::Terminator::returning, record::specs::Payload::of_terminator, record::specs::Payload::of_instruction, record::specs::Instruction::joined, wire::specs::Range::fits32))]
+
 ghost use Rattle.std.specs.Prelude.{◌≡◌, ◌≤◌, get_or};
 ghost use Rattle.ir.specs.declared.operands.Operands.TheVariants.{Zero};
 ghost use Rattle.record.specs.Payload.{of_terminator};
@@ -6,217 +8,153 @@ ghost use Rattle.record.specs.Terminator.{returning};
 ghost use Rattle.recordfields.specs.Meant.{operand_from, operands_from, opcode_from, head_from, block_from, instruction_from, jump_from, branch_from, terminator_from, record_from};
 
 use ir::operands::Operands;
-use ir::{Instruction, Operand, Terminator, operands};
-use opcode::{Fields, ReadOpcode};
-use operand::{ReadOperand, ReadOperands};
-use record::payload::Payload;
+use ir::{Instruction, Opcode, Operand, Terminator, operands};
+use opcode::Fields;
 use record::{Head, Record};
-use wire::range::fits32;
 use wire::sign64;
 
 fn at(fields: &[u64], i: usize) -> u64
     ensures { result ≡ get_or fields.now i 0 }
 {
-    if i < fields.len() {
-        return fields[i];
-    }
-    0
+    fields.get(i).copied().unwrap_or(0)
 }
 
-fn operand_from(tag: u64, value: u64) -> ReadOperand
+fn operand_from(tag: u64, value: u64) -> Option<Operand>
     ensures { result ≡ operand_from tag value }
 {
-    if tag == 0 {
-        if value < 4294967296 {
-            return ReadOperand::Is(Operand::Var(value as u32));
-        }
-        return ReadOperand::Broken;
+    match tag {
+        0 => { Some(Operand::Var(u32::try_from(value).ok()?)) }
+        1 => Some(Operand::Immediate(sign64(value))),
+        _ => None,
     }
-    if tag == 1 {
-        return ReadOperand::Is(Operand::Immediate(sign64(value)));
-    }
-    ReadOperand::Broken
 }
 
 // The k operands of an instruction.
-fn operands_from(fields: &[u64], k: u64) -> ReadOperands
+fn operands_from(fields: &[u64], k: u64) -> Option<Operands>
     requires { k ≤ 8 }
     ensures { result ≡ operands_from Zero fields.now 7 k }
 {
     let mut list = Operands::Zero;
     let mut i = 7;
-    let mut left = k;
-    while 0 < left {
-        let ReadOperand::Is(o) = operand_from(at(fields, i), at(fields, i + 1)) else {
-            return ReadOperands::Broken;
-        };
+    for _ in 0..k {
+        let o = operand_from(at(fields, i), at(fields, i + 1))?;
         list = operands::push(list, o);
-        i = i + 2;
-        left = left - 1;
+        i += 2;
     }
-    ReadOperands::Is(list)
+    Some(list)
 }
 
-fn opcode_from(code: u64, small: u64, offset: u64, number: u64, maps: u16) -> ReadOpcode
+fn opcode_from(code: u64, small: u64, offset: u64, number: u64, maps: u16) -> Option<Opcode>
     ensures { result ≡ opcode_from maps code small offset number }
 {
-    let z = sign64(offset);
-    if 255 < code {
-        return ReadOpcode::Broken;
-    }
-    if 255 < small {
-        return ReadOpcode::Broken;
-    }
-    if 4294967295 < number {
-        return ReadOpcode::Broken;
-    }
-    if fits32(z) {
-        return opcode::opcode_of(
-            Fields {
-                code: code as u8,
-                small: small as u8,
-                offset: z as i32,
-                number: number as u32,
-            },
-            maps,
-        );
-    }
-    ReadOpcode::Broken
+    let code = u8::try_from(code).ok()?;
+    let small = u8::try_from(small).ok()?;
+    let offset = i32::try_from(sign64(offset)).ok()?;
+    let number = u32::try_from(number).ok()?;
+    opcode::opcode_of(
+        Fields {
+            code,
+            small,
+            offset,
+            number,
+        },
+        maps,
+    )
 }
 
-fn head_from(edition: u64, maps: u64, blocks: u64) -> Payload
+fn head_from(edition: u64, maps: u64, blocks: u64) -> Option<Record>
     ensures { result ≡ head_from edition maps blocks }
 {
-    if 65535 < edition {
-        return Payload::Broken;
-    }
-    if 65535 < maps {
-        return Payload::Broken;
-    }
-    if 4294967295 < blocks {
-        return Payload::Broken;
-    }
-    Payload::Is(Record::Head(Head {
-        edition: edition as u16,
-        maps: maps as u16,
-        blocks: blocks as u32,
+    let edition = u16::try_from(edition).ok()?;
+    let maps = u16::try_from(maps).ok()?;
+    let blocks = u32::try_from(blocks).ok()?;
+    Some(Record::Head(Head {
+        edition,
+        maps,
+        blocks,
     }))
 }
 
-fn instruction_from(fields: &[u64], maps: u16) -> Payload
+fn instruction_from(fields: &[u64], maps: u16) -> Option<Record>
     ensures { result ≡ instruction_from maps fields.now }
 {
-    let result = at(fields, 1);
+    let result = u32::try_from(at(fields, 1)).ok()?;
     let count = at(fields, 6);
-    if 4294967295 < result {
-        return Payload::Broken;
-    }
     if 8 < count {
-        return Payload::Broken;
+        return None;
     }
     let code = at(fields, 2);
     let small = at(fields, 3);
     let offset = at(fields, 4);
     let number = at(fields, 5);
-    let ReadOpcode::Is(o) = opcode_from(code, small, offset, number, maps) else {
-        return Payload::Broken;
-    };
-    let ReadOperands::Is(list) = operands_from(fields, count) else {
-        return Payload::Broken;
-    };
-    Payload::Is(Record::Instruction(Instruction {
-        result: result as u32,
-        opcode: o,
-        operands: list,
+    let opcode = opcode_from(code, small, offset, number, maps)?;
+    let operands = operands_from(fields, count)?;
+    Some(Record::Instruction(Instruction {
+        result,
+        opcode,
+        operands,
     }))
 }
 
-fn jump_from(target: u64) -> Payload
+fn jump_from(target: u64) -> Option<Record>
     ensures { result ≡ jump_from target }
 {
-    if target < 4294967296 {
-        return Payload::Is(Record::Terminator(Terminator::Jump(target as u32)));
-    }
-    Payload::Broken
+    let target = u32::try_from(target).ok()?;
+    Some(Record::Terminator(Terminator::Jump(target)))
 }
 
-fn return_from(o: ReadOperand) -> Payload
+fn return_from(o: Option<Operand>) -> Option<Record>
     ensures { result ≡ of_terminator (returning o) }
 {
-    let ReadOperand::Is(o) = o else {
-        return Payload::Broken;
-    };
-    Payload::Is(Record::Terminator(Terminator::Return(o)))
+    Some(Record::Terminator(Terminator::Return(o?)))
 }
 
-fn branch_from(o: ReadOperand, to: u64, other: u64) -> Payload
+fn branch_from(o: Option<Operand>, to: u64, other: u64) -> Option<Record>
     ensures { result ≡ branch_from o to other }
 {
-    if 4294967295 < to {
-        return Payload::Broken;
-    }
-    if 4294967295 < other {
-        return Payload::Broken;
-    }
-    let ReadOperand::Is(o) = o else {
-        return Payload::Broken;
-    };
-    Payload::Is(Record::Terminator(Terminator::Branch {
-        condition: o,
-        true_block: to as u32,
-        false_block: other as u32,
+    let true_block = u32::try_from(to).ok()?;
+    let false_block = u32::try_from(other).ok()?;
+    Some(Record::Terminator(Terminator::Branch {
+        condition: o?,
+        true_block,
+        false_block,
     }))
 }
 
-fn terminator_from(fields: &[u64]) -> Payload
+fn terminator_from(fields: &[u64]) -> Option<Record>
     ensures { result ≡ terminator_from fields.now }
 {
     let form = at(fields, 1);
     let second = at(fields, 2);
     let third = at(fields, 3);
-    if form == 0 {
-        return return_from(operand_from(second, third));
+    match form {
+        0 => return_from(operand_from(second, third)),
+        1 => jump_from(second),
+        2 => branch_from(operand_from(second, third), at(fields, 4), at(fields, 5)),
+        _ => None,
     }
-    if form == 1 {
-        return jump_from(second);
-    }
-    if form == 2 {
-        return branch_from(operand_from(second, third), at(fields, 4), at(fields, 5));
-    }
-    Payload::Broken
 }
 
-fn block_from(id: u64) -> Payload
+fn block_from(id: u64) -> Option<Record>
     ensures { result ≡ block_from id }
 {
-    if id < 4294967296 {
-        return Payload::Is(Record::Block(id as u32));
-    }
-    Payload::Broken
+    let id = u32::try_from(id).ok()?;
+    Some(Record::Block(id))
 }
 
 // The record that the numbers mean in a unit of so many maps, if they mean one.
-pub fn record_from(fields: &[u64], maps: u16) -> Payload
+pub fn record_from(fields: &[u64], maps: u16) -> Option<Record>
     ensures { result ≡ record_from maps fields.now }
 {
-    let kind = at(fields, 0);
-    if kind == 1 {
-        return head_from(at(fields, 1), at(fields, 2), at(fields, 3));
-    }
-    if kind == 2 {
-        return Payload::Is(Record::Map {
+    match at(fields, 0) {
+        1 => head_from(at(fields, 1), at(fields, 2), at(fields, 3)),
+        2 => Some(Record::Map {
             start: at(fields, 1) as usize,
             len: at(fields, 2) as usize,
-        });
+        }),
+        3 => block_from(at(fields, 1)),
+        4 => instruction_from(fields, maps),
+        5 => terminator_from(fields),
+        _ => None,
     }
-    if kind == 3 {
-        return block_from(at(fields, 1));
-    }
-    if kind == 4 {
-        return instruction_from(fields, maps);
-    }
-    if kind == 5 {
-        return terminator_from(fields);
-    }
-    Payload::Broken
 }

@@ -1,11 +1,13 @@
 // A record's value as numbers, padded with zeros to 24.
+#![tactic(auto, unfolding(crate::specs::Fields::tag_of, crate::specs::Fields::value_of, crate::specs::Fields::padded, crate::specs::Fields::terminator_numbers, crate::specs::Fields::instruction_numbers, crate::specs::Fields::record_numbers, crate::specs::Fields::fields_of))]
+
 ghost use Rattle.std.specs.Prelude.{◌≡◌, [], ◌∷◌, ◌+◌, ◌*◌, ◌≤◌, length};
 ghost use Rattle.std.proofs.lemmas.List.Edits.{sets};
 ghost use Rattle.ir.specs.Operands.{list_of};
 ghost use Rattle.opcode.specs.Opcode.{fields_of as opcodeFields};
 ghost use Rattle.recordfields.specs.Fields.{tag_of, value_of, operands_numbers, padded, terminator_numbers, instruction_numbers, fields_of};
 
-use ir::operands::{Front, Operands};
+use ir::operands::Operands;
 use ir::{Instruction, Operand, Terminator, operands};
 use record::Record;
 use wire::bits64;
@@ -29,20 +31,18 @@ fn value(o: Operand) -> u64
 }
 
 // The tags and values, where the caller has found room for them.
+#[tactic(auto, using(operand::proofs::OperandBytes::first_counted))]
 fn put_operands(fields: &mut [u64], at: usize, list: Operands)
     requires { at + 2 * length (list_of list) ≤ length fields.old }
     ensures { fields.new ≡ sets fields.old at (operands_numbers (list_of list)) }
 {
     let mut left = list;
     let mut i = at;
-    loop {
-        let Front::Is(o) = operands::first(left) else {
-            return;
-        };
+    while let Some(o) = operands::first(left) {
         fields[i] = tag(o);
         fields[i + 1] = value(o);
         left = operands::rest(left);
-        i = i + 2;
+        i += 2;
     }
 }
 
@@ -55,6 +55,7 @@ fn padded(a: u64, b: u64, c: u64, d: u64, e: u64, f: u64, g: u64) -> [u64; 24]
     ]
 }
 
+#[tactic(auto, using(ir::proofs::OperandLaws::at_most_eight), unfolding(crate::specs::Fields::padded, crate::specs::Fields::instruction_numbers))]
 fn instruction_fields(i: Instruction) -> [u64; 24]
     ensures { result ≡ padded (instruction_numbers i.result (opcodeFields i.opcode) (list_of i.operands)) }
 {

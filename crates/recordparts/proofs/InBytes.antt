@@ -9,7 +9,6 @@ use Rattle.ir.specs.declared.Instruction.{Instruction}
 use Rattle.ir.specs.declared.Terminator.{Terminator}
 use Rattle.ir.specs.declared.operands.Operands.TheVariants.{Zero}
 use Rattle.operand.specs.Operand.{operands_at}
-use Rattle.operand.specs.declared.ReadOperands.TheVariants as L
 use Rattle.operand.proofs.OperandIn.{operands_read}
 use Rattle.record.specs.Frame.{length_at, kind_at, next_at}
 use Rattle.record.specs.Instruction.{count_in}
@@ -20,6 +19,7 @@ use Rattle.unitfile.specs.Records.{Cursor, go, next_record}
 use Rattle.unitfile.proofs.Run.{taken}
 use Rattle.recordparts.specs.Stands.{InstructionAt, TerminatorAt}
 use Rattle.recordparts.proofs.Parts.{block_part, instruction_part, terminator_part}
+use Rattle.std.specs.Prelude.{Some}
 
 module _ (b : List ℕ) (maps : ℕ) (c d : Cursor) where
   pub block_in : (id : ℕ) → next_record b maps c ≡ go (R.Block id) d → id ≡ unsigned_at w32 b (c.at + 4)
@@ -31,7 +31,7 @@ module _ (b : List ℕ) (maps : ℕ) (c d : Cursor) where
       let t = taken b maps c (R.Instruction i) d e in
       let p = instruction_part b (c.at + 4) (length_at b c.at) maps i (kind_at b c.at) t.payload in
       let there : c.at + 4 + 16 ≡ c.at + 20 = omega arith in
-      let o = subst (λ (x : ℕ). operands_at Zero b x (count_in b (c.at + 4)) ≡ L.Is i.operands) there p.operands in
+      let o = subst (λ (x : ℕ). operands_at Zero b x (count_in b (c.at + 4)) ≡ Some i.operands) there p.operands in
       record {
         kind = sym (kind_of_lem (kind_at b c.at) b (c.at + 4) (length_at b c.at) maps (R.Instruction i) t.payload);
         result = p.result;

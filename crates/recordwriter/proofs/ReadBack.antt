@@ -34,12 +34,6 @@ use Rattle.opcode.specs.declared.Fields.{Fields}
 use Rattle.record.specs.declared.Head.{Head}
 use Rattle.record.specs.declared.Record.{Record}
 use Rattle.record.specs.declared.Record.TheVariants as R
-use Rattle.record.specs.declared.Read.TheVariants as Re
-use Rattle.operand.specs.declared.ReadOperand.TheVariants as O
-use Rattle.operand.specs.declared.ReadOperands.TheVariants as L
-use Rattle.record.specs.declared.instruction.ReadInstruction.TheVariants as I
-use Rattle.record.specs.declared.terminator.ReadTerminator.TheVariants as T
-use Rattle.record.specs.declared.payload.Payload.TheVariants as P
 use Rattle.payloadwriter.specs.Payloads.{instruction_bytes, terminator_bytes}
 use Rattle.recordwriter.specs.Bytes.{payload_bytes, record_bytes}
 use Rattle.recordwriter.specs.Written.{valid}
@@ -50,6 +44,7 @@ use Rattle.payloadwriter.proofs.Lengths.{instruction_length, return_length, jump
 use Rattle.recordwriter.proofs.Length.{head_length, part_length, record_length}
 use Rattle.recordwriter.proofs.Valid.{name_told, payload_small}
 use Rattle.recordwriter.proofs.Holds.{Holds, stands, first, second, byte_there, unsigned_there, signed_there}
+use Rattle.std.specs.Prelude.{Ok, Some}
 
 -- ---- the fields of an opcode fit theirs
 
@@ -105,7 +100,7 @@ kind_fits (R.Terminator t) = record { fits = omega arith }
 module _ (b : List ℕ) where
   -- ---- operands
 
-  pub operand_read : {i k : ℕ} (o : Operand) → TypedOperand o → Holds b i k (operand_bytes o) → operand_at b i ≡ O.Is o
+  pub operand_read : {i k : ℕ} (o : Operand) → TypedOperand o → Holds b i k (operand_bytes o) → operand_at b i ≡ Some o
   unfolding operand_bytes operand_at
   operand_read {i} {k} (Var v) f h =
       let tag = byte_there 0 h in
@@ -120,9 +115,9 @@ module _ (b : List ℕ) where
       let room = le-leb (i + 9) (length b) (omega (arith, h.room, h.size, operand_length (Immediate z))) in
       rw (room, tag, value)
 
-  pub operands_read : {i k : ℕ} (l m : Operands) (os : List Operand) → list_of m ≡ list_of l ++ os → TypedOperands os → Holds b i k (operands_bytes os) → operands_at l b i (length os) ≡ L.Is m
+  pub operands_read : {i k : ℕ} (l m : Operands) (os : List Operand) → list_of m ≡ list_of l ++ os → TypedOperands os → Holds b i k (operands_bytes os) → operands_at l b i (length os) ≡ Some m
   unfolding operands_bytes operands_at on_operand
-  operands_read l m [] e f h = ap L.Is (list_of_injective l m (sym (e ∙ append-nil (list_of l))))
+  operands_read l m [] e f h = ap Some (list_of_injective l m (sym (e ∙ append-nil (list_of l))))
   operands_read {i} l m (o ∷ os) e f h =
       let n = ap length e in
       let few : length (list_of l) < 8 = omega (arith, simp length-append at n, at_most_eight m) in
@@ -182,7 +177,7 @@ module _ (b : List ℕ) where
             operands_there = second (a ++ m ++ o ++ d) (operands_bytes os) 16 (simp (length-append, unsigned_length, signed_length)) h;
           }
 
-  pub instruction_read : {at n : ℕ} (maps : ℕ) (i : Instruction) → Fits w16 maps → Typed (R.Instruction i) → map_ok maps i.opcode ≡ true → Holds b at n (instruction_bytes i.result (fields_of i.opcode) (list_of i.operands)) → instruction_at b at n maps ≡ I.Is i
+  pub instruction_read : {at n : ℕ} (maps : ℕ) (i : Instruction) → Fits w16 maps → Typed (R.Instruction i) → map_ok maps i.opcode ≡ true → Holds b at n (instruction_bytes i.result (fields_of i.opcode) (list_of i.operands)) → instruction_at b at n maps ≡ Some i
   unfolding instruction_at sized joined list_of
   instruction_read {at} {n} maps i m t e h =
       let os = list_of i.operands in
@@ -193,7 +188,7 @@ module _ (b : List ℕ) where
 
   -- ---- terminators
 
-  pub terminator_read : {at n : ℕ} (t : Terminator) → TypedTerminator t → Holds b at n (terminator_bytes t) → terminator_at b at n ≡ T.Is t
+  pub terminator_read : {at n : ℕ} (t : Terminator) → TypedTerminator t → Holds b at n (terminator_bytes t) → terminator_at b at n ≡ Some t
   unfolding terminator_at terminator_bytes returning branching
   terminator_read {at} {n} (Return o) f h =
       let l : n ≡ 10 = sym h.size ∙ return_length {o = o} refl in
@@ -226,7 +221,7 @@ module _ (b : List ℕ) where
       let blocks = unsigned_there w32 h.blocks f.2 (second (e ++ m) k 4 (simp (length-append, unsigned_length)) g) in
       rw (edition, maps, blocks)
 
-  pub payload_read : {at n : ℕ} (maps : ℕ) (names : List ℕ) (r : Record) → Fits w16 maps → Typed r → valid maps names r ≡ true → Holds b at n (payload_bytes names r) → payload_at (kind_of r) b at n maps ≡ P.Is (placed at r)
+  pub payload_read : {at n : ℕ} (maps : ℕ) (names : List ℕ) (r : Record) → Fits w16 maps → Typed r → valid maps names r ≡ true → Holds b at n (payload_bytes names r) → payload_at (kind_of r) b at n maps ≡ Some (placed at r)
   unfolding payload_at kind_of placed valid payload_bytes of_instruction of_terminator
   payload_read {at} {n} maps names (R.Head x) m f e h =
       let l : n ≡ 8 = sym h.size ∙ head_length names x in
@@ -243,7 +238,7 @@ module _ (b : List ℕ) where
 
   -- ---- records
 
-  pub record_read : {at n : ℕ} (maps : ℕ) (names : List ℕ) (r : Record) → Fits w16 maps → Typed r → valid maps names r ≡ true → Holds b at n (record_bytes names r) → read_record b at (due_of r) maps ≡ Re.Record (placed (at + 4) r) (at + n)
+  pub record_read : {at n : ℕ} (maps : ℕ) (names : List ℕ) (r : Record) → Fits w16 maps → Typed r → valid maps names r ≡ true → Holds b at n (record_bytes names r) → read_record b at (due_of r) maps ≡ Ok (placed (at + 4) r, at + n)
   unfolding read_record whole_at next_at on_payload record_bytes
   record_read {at} {n} maps names r m f e h =
       let v = payload_bytes names r in
@@ -256,8 +251,8 @@ module _ (b : List ℕ) where
       let kind = unsigned_there w16 (kind_of r) (kind_fits r) (second a k 2 (unsigned_length w16 s) front) in
       let payload = payload_read maps names r m f e (second (a ++ k) v 4 (simp (length-append, unsigned_length)) h) in
       rw (size, kind, le-leb (at + 4) (length b) (omega (arith, h.room)), le-leb (at + 4 + s) (length b) (omega (arith, h.room)), due_kind r, payload)
-      (ap (Re.Record (placed (at + 4) r)) (omega arith))
+      (ap (λ (n : ℕ). Ok (placed (at + 4) r, n)) (omega arith))
 
 -- wherever its bytes stand, the record is read, with a map's name where it now lies, and what follows it is next
-pub read_after_write : (p q names : List ℕ) (maps : ℕ) (r : Record) → Fits w16 maps → Typed r → valid maps names r ≡ true → read_record (p ++ record_bytes names r ++ q) (length p) (due_of r) maps ≡ Re.Record (placed (length p + 4) r) (length p + length (record_bytes names r))
+pub read_after_write : (p q names : List ℕ) (maps : ℕ) (r : Record) → Fits w16 maps → Typed r → valid maps names r ≡ true → read_record (p ++ record_bytes names r ++ q) (length p) (due_of r) maps ≡ Ok (placed (length p + 4) r, length p + length (record_bytes names r))
 read_after_write p q names maps r m f e = record_read (p ++ record_bytes names r ++ q) maps names r m f e (stands p (record_bytes names r) q)

@@ -1,5 +1,5 @@
 -- What the record writer answers, and what it leaves in the buffer: 5 before 6.
-use Rattle.std.specs.Prelude.{ℕ, ◌+◌, Bool, true, List, leb, pos, length}
+use Rattle.std.specs.Prelude.{ℕ, ◌+◌, Bool, true, List, leb, pos, length, Err, Ok, Result}
 use Rattle.wire.specs.Pick.{pick, both}
 use Rattle.wire.specs.Le.{store}
 use Rattle.wire.specs.declared.refusal.Refusal.{Refusal}
@@ -8,8 +8,6 @@ use Rattle.record.specs.Payload.{head_ok}
 use Rattle.record.specs.declared.Record.{Record}
 use Rattle.record.specs.declared.Record.TheVariants as R
 use Rattle.recordwriter.specs.Bytes.{record_bytes}
-use Rattle.recordwriter.specs.declared.Written.{Written}
-use Rattle.recordwriter.specs.declared.Written.TheVariants.{Bytes, Refused}
 use Rattle.recordwriter.specs.declared.Fault.{Fault}
 use Rattle.recordwriter.specs.declared.Fault.TheVariants.{Broken, NoRoom}
 
@@ -22,9 +20,9 @@ valid maps names (R.Instruction i) = map_ok maps i.opcode
 valid maps names (R.Terminator t) = true
 
 -- the answer for a buffer of so many bytes
-unfoldable pub written_answer : Record → List ℕ → ℕ → ℕ → Written
+unfoldable pub written_answer : Record → List ℕ → ℕ → ℕ → Result ℕ Fault
 written_answer r names maps room =
-    pick (valid maps names r) (pick (leb (length (record_bytes names r)) room) (Bytes (length (record_bytes names r))) (Refused (NoRoom (length (record_bytes names r))))) (Refused Broken)
+    pick (valid maps names r) (pick (leb (length (record_bytes names r)) room) (Ok (length (record_bytes names r))) (Err (NoRoom (length (record_bytes names r))))) (Err Broken)
 
 -- the buffer afterwards: the record's bytes at its front, and a refused buffer as it was
 unfoldable pub written_buffer : Record → List ℕ → ℕ → List ℕ → List ℕ

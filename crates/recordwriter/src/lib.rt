@@ -9,7 +9,7 @@ ghost use Rattle.recordwriter.specs.Written.{written_answer, written_buffer, ref
 
 use put::put_record;
 use record::Record;
-use size::{Size, size_of};
+use size::size_of;
 use wire::refusal::Refusal;
 
 // Why a record is not written.
@@ -19,13 +19,7 @@ pub enum Fault {
     NoRoom(u32),
 }
 
-// The bytes written, or the refusal.
-#[derive(Drop)]
-pub enum Written {
-    Bytes(usize),
-    Refused(Fault),
-}
-
+#[tactic(auto, unfolding(crate::specs::Written::refusal_of))]
 pub fn refusal(f: Fault) -> Refusal
     ensures { result ≡ refusal_of f }
 {
@@ -44,17 +38,23 @@ pub fn refusal(f: Fault) -> Refusal
 }
 
 // Writes one record at the buffer's front, in a unit of so many maps; a map's name lies in `names`, where its record says.
-pub fn write_record(value: Record, names: &[u8], maps: u16, buffer: &mut [u8]) -> Written
+#[tactic(auto, using(std::proofs::lemmas::Bool::Decides::nat_tests, crate::proofs::Valid::valid_more, crate::proofs::Length::record_length, wire::proofs::Store::store_out), unfolding(crate::specs::Size::size_of, crate::specs::Written::written_answer, crate::specs::Written::written_buffer))]
+pub fn write_record(
+    value: Record,
+    names: &[u8],
+    maps: u16,
+    buffer: &mut [u8],
+) -> Result<usize, Fault>
     ensures value { result ≡ written_answer value names.now maps (length buffer.old) }
     ensures buffer_after { buffer.new ≡ written_buffer value names.now maps buffer.old }
 {
-    let Size::Bytes(n) = size_of(value, names, maps) else {
-        return Written::Refused(Fault::Broken);
+    let Some(n) = size_of(value, names, maps) else {
+        return Err(Fault::Broken);
     };
     let needed = 4 + (n as u32);
     if buffer.len() < needed as usize {
-        return Written::Refused(Fault::NoRoom(needed));
+        return Err(Fault::NoRoom(needed));
     }
     put_record(buffer, value, names, n);
-    Written::Bytes(needed as usize)
+    Ok(needed as usize)
 }

@@ -1,209 +1,153 @@
 // Codes, screened: the verdict, and the table after the call.
-use crate::input::Next;
-use crate::{hash, input, output};
-use screen::Verdict;
-use std::fs;
+ghost use Rattle.std.specs.Prelude.{◌≤◌, length, IfOk};
+
+use crate::input::{self, List};
+use crate::{hash, output};
+use std::alloc::{AllocError, Global};
+use std::fmt;
 use std::io::{self, Read};
 use std::rt::Files;
 
+// From this count on, it is one of pairs, and so much too high.
+const PAIRS: u32 = 2147483648;
+
+// Room for the longest code, the most relocation numbers and the longest table of the list.
+#[derive(Drop)]
+struct Room {
+    code: Vec<u8>,
+    numbers: Vec<u32>,
+    table: Vec<u16>,
+}
+
+impl Room {
+    fn new(alloc: Global) -> Result<Self, AllocError> {
+        Ok(Room {
+            code: vec![in alloc; 0; 1048584]?,
+            numbers: vec![in alloc; 0; 131072]?,
+            table: vec![in alloc; 0; 132072]?,
+        })
+    }
+}
+
 // ---- a code: runs of slots, each repeated, and up to 7 bytes more
 
-// The longest code of the list.
-const MOST: u32 = 1048584;
-
-// The n bytes at `from`, at `to` too.
-fn copy(code: &mut [u8], from: u32, to: u32, n: u32) {
-    for i in 0..n {
-        let b = wire::get_u8(code, from as usize + i as usize);
-        wire::put_u8(code, to as usize + i as usize, b);
+// Slots, as often as the list says and as they fit into the room; how many bytes they take.
+fn run<F: Read>(list: &mut List<F>, room: &mut [u8]) -> io::Result<usize>
+    ensures { IfOk result (λ n. n ≤ length room.new) }
+{
+    let times = list.number()? as usize;
+    let n = 8 * (list.number()? as usize);
+    if n == 0 || room.len() < n {
+        return Ok(0);
     }
+    let len = n.saturating_mul(times).min(room.len());
+    let (slots, rest) = room.split_at_mut(n);
+    list.fill(slots)?;
+    input::repeat(&mut rest[..len.saturating_sub(n)], slots);
+    Ok(len - len % n)
 }
 
-// The n bytes at `at`, so many times in all; the length of the code then.
-fn repeat(code: &mut [u8], at: u32, n: u32, times: u32) -> u32 {
-    let mut end = at;
-    for _ in 0..times {
-        copy(code, at, end, n);
-        if end <= MOST {
-            if n <= MOST - end {
-                end += n;
-            }
-        }
-    }
-    end
-}
-
-fn run(list: &mut impl Read, code: &mut [u8], at: u32) -> io::Result<u32> {
-    let times = input::number(list)?;
-    let slots = input::number(list)?;
-    if MOST < slots {
-        return Ok(at);
-    }
-    let n = 8 * slots;
-    input::bytes(list, code, at as usize, n as usize)?;
-    Ok(repeat(code, at, n, times))
-}
-
-fn runs(list: &mut impl Read, first: u32, code: &mut [u8]) -> io::Result<u32> {
+fn code_in<F: Read>(list: &mut List<F>, code: &mut [u8]) -> io::Result<usize> {
     let mut at = 0;
-    for _ in 0..first {
-        at = run(list, code, at)?;
+    for _ in 0..list.number()? {
+        at += run(list, &mut code[at..])?;
     }
-    Ok(at)
-}
-
-fn code_in(list: &mut impl Read, first: u32, code: &mut [u8]) -> io::Result<usize> {
-    let at = runs(list, first, code)? as usize;
-    let extra = input::number(list)? as usize;
-    input::bytes(list, code, at, extra)?;
+    let extra = list.number()? as usize;
+    if let Some(bytes) = code.get_mut(at..at + extra) {
+        list.fill(bytes)?;
+    }
     Ok(at + extra)
 }
 
 // ---- relocations: numbers, or pairs in steps
 
-fn put(numbers: &mut [u32], i: usize, n: u32) {
-    if i < numbers.len() {
-        numbers[i] = n;
-    }
-}
-
-fn numbers_in(list: &mut impl Read, count: u32, numbers: &mut [u32]) -> io::Result<()> {
-    for i in 0..count {
-        put(numbers, i as usize, input::number(list)?);
+fn numbers_in<F: Read>(list: &mut List<F>, count: u32, numbers: &mut [u32]) -> io::Result<()> {
+    let mut room = numbers.iter_mut();
+    for _ in 0..count {
+        let n = list.number()?;
+        if let Some(to) = room.next() {
+            *to = n;
+        }
     }
     Ok(())
 }
 
-// Numbers stay below 2^32 in the list; what would pass it does not fit and is none.
-fn narrow(n: u64) -> u32 {
-    if n < 4294967296 {
-        return n as u32;
-    }
-    0
-}
-
-fn pairs_in(list: &mut impl Read, count: u32, numbers: &mut [u32]) -> io::Result<()> {
-    let mut offset = input::number(list)? as u64;
-    let step = input::number(list)? as u64;
-    for i in 0..count {
-        put(numbers, 2 * (i as usize), narrow(offset));
-        put(numbers, 2 * (i as usize) + 1, i);
+// An offset that is no u32 is in no list, and is 0 here.
+fn pairs_in<F: Read>(list: &mut List<F>, count: u32, numbers: &mut [u32]) -> io::Result<()> {
+    let mut offset = u64::from(list.number()?);
+    let step = u64::from(list.number()?);
+    for (pair, i) in numbers.chunks_exact_mut(2).zip(0..count) {
+        pair[0] = u32::try_from(offset).unwrap_or(0);
+        pair[1] = i;
         offset = offset.wrapping_add(step);
     }
     Ok(())
 }
 
-fn relocations_in(list: &mut impl Read, numbers: &mut [u32]) -> io::Result<usize> {
-    let count = input::number(list)?;
-    if count < 2147483648 {
+fn relocations_in<F: Read>(list: &mut List<F>, numbers: &mut [u32]) -> io::Result<usize> {
+    let count = list.number()?;
+    if count < PAIRS {
         numbers_in(list, count, numbers)?;
         return Ok(count as usize);
     }
-    let pairs = count - 2147483648;
-    pairs_in(list, pairs, numbers)?;
-    Ok(2 * (pairs as usize))
+    pairs_in(list, count - PAIRS, numbers)?;
+    Ok(2 * ((count - PAIRS) as usize))
 }
 
 // ---- the table
 
-fn fill(table: &mut [u16]) {
-    for x in table.iter_mut() {
-        *x = 0xaaaa;
-    }
-}
+#[derive(Clone, Copy)]
+struct Entries<'a>(&'a [u16]);
 
-fn wide(x: u16) -> u64 {
-    x as u64
-}
-
-fn entries(out: &impl Print, table: &[u16]) -> io::Result<()> {
-    for (i, x) in table.iter().enumerate() {
-        if 0 < i {
-            output::word(out, b" ")?;
+impl fmt::Display for Entries<'_> {
+    fn fmt<W: fmt::Write>(&self, f: &mut fmt::Formatter<W>) -> fmt::Result {
+        for (i, x) in self.0.iter().enumerate() {
+            if i > 0 {
+                f.write_str(" ")?;
+            }
+            write!(f, "{x:04x}")?;
         }
-        output::hex_of(out, wide(*x), 4)?;
+        Ok(())
     }
-    Ok(())
 }
 
 fn told(out: &impl Print, table: &[u16]) -> io::Result<()> {
     if table.len() <= 40 {
-        entries(out, table)?;
+        println!(out; "{}", Entries(table))
     } else {
-        output::word(out, b"fnv1a ")?;
-        output::hex_of(out, hash::numbers(table), 16)?;
+        println!(out;
+            "fnv1a {:016x}",
+            hash::fnv1a(table.iter().flat_map(|x| x.to_le_bytes()))
+        )
     }
-    output::word(out, b"\n")
 }
 
 // ---- a case
 
 fn judged(out: &impl Print, code: &[u8], relocs: &[u32], table: &mut [u16]) -> io::Result<()> {
-    fill(table);
+    table.fill(0xaaaa);
     match screen::screen(code, relocs, table) {
-        Verdict::Yes => output::word(out, b"yes\n")?,
-        Verdict::Refused(f) => output::refused(out, screen::refusal(f))?,
+        Ok(()) => println!(out; "yes")?,
+        Err(f) => output::refused(out, screen::refusal(f))?,
     }
     told(out, table)
 }
 
-fn case(
-    out: &impl Print,
-    list: &mut impl Read,
-    first: u32,
-    code: &mut [u8],
-    numbers: &mut [u32],
-    table: &mut [u16],
-) -> io::Result<()> {
-    let n = code_in(list, first, code)?;
-    let m = relocations_in(list, numbers)?;
-    let k = input::number(list)? as usize;
-    if n <= code.len() {
-        if m <= numbers.len() {
-            if k <= table.len() {
-                judged(out, &code[0..n], &numbers[0..m], &mut table[0..k])?;
-            }
-        }
+fn case<F: Read>(out: &impl Print, list: &mut List<F>, room: &mut Room) -> io::Result<()> {
+    let n = code_in(list, &mut room.code)?;
+    let m = relocations_in(list, &mut room.numbers)?;
+    let k = list.number()? as usize;
+    match (
+        room.code.get(..n),
+        room.numbers.get(..m),
+        room.table.as_mut_slice().get_mut(..k),
+    ) {
+        (Some(code), Some(relocs), Some(table)) => judged(out, code, relocs, table),
+        _ => Ok(()),
     }
-    Ok(())
 }
 
-fn cases(
-    out: &impl Print,
-    list: &mut impl Read,
-    code: &mut [u8],
-    numbers: &mut [u32],
-    table: &mut [u16],
-) -> io::Result<()> {
-    for _ in 0..100000 {
-        let Next::Byte(low) = input::byte(list)? else {
-            return Ok(());
-        };
-        let first = input::number_after(list, low)?;
-        case(out, list, first, code, numbers, table)?;
-    }
-    Ok(())
-}
-
-fn list(
-    out: &impl Print,
-    file: &mut impl Read,
-    code: &mut [u8; 1048584],
-    numbers: &mut [u32; 131072],
-    table: &mut [u16; 132072],
-) -> io::Result<()> {
-    cases(out, file, code, numbers, table)
-}
-
-pub(crate) fn replay(rt: &(impl Files + Print)) -> io::Result<()> {
-    let mut code = [0u8; 1048584];
-    let mut numbers = [0u32; 131072];
-    let mut table = [0u16; 132072];
-    list(
-        rt,
-        &mut fs::open(rt, "codes")?,
-        &mut code,
-        &mut numbers,
-        &mut table,
-    )
+pub(crate) fn replay(rt: &(impl Files + Print + AllocGlobal)) -> io::Result<()> {
+    let mut room = Room::new(rt.alloc())?;
+    input::open(rt, "codes")?.each_case(|list| case(rt, list, &mut room))
 }

@@ -1,65 +1,63 @@
-// What a stored list holds: bytes, and little-endian numbers.
-ghost use Rattle.std.specs.Prelude.{◌≤◌, length, IfOk};
+// A stored list: one case after the other, in bytes and little-endian numbers.
+use std::fs;
+use std::io::{self, BufRead, BufReader, Read};
+use std::rt::Files;
 
-use std::io::{self, Read};
+// What stands after so many cases is not read. A loop has to end, and no proof knows how much a file holds.
+const MOST_CASES: u32 = 100000;
 
 #[derive(Drop)]
-pub(crate) enum Next {
-    Byte(u8),
-    End,
+pub(crate) struct List<F> {
+    file: BufReader<F>,
 }
 
-// Reads until `buffer` is full or the list ends, and answers how many bytes it put at the front of `buffer`.
-fn read_full(list: &mut impl Read, buffer: &mut [u8]) -> io::Result<usize>
-    ensures { IfOk result (λ n. n ≤ length buffer.new) }
-{
-    let mut done = 0;
-    while done < buffer.len() {
-        let n = list.read(&mut buffer[done..])?;
-        if n == 0 {
-            break;
+// Opens the list of that name in the folder that the program runs in.
+pub(crate) fn open<R: Files + AllocGlobal>(rt: &R, name: &str) -> io::Result<List<R::File>> {
+    let file = BufReader::new(rt.alloc(), fs::open(rt, name)?)?;
+    Ok(List { file })
+}
+
+impl<F: Read> List<F> {
+    // Calls `case` where each case begins.
+    pub(crate) fn each_case<C: FnMut(&mut Self) -> io::Result<()>>(
+        &mut self,
+        mut case: C,
+    ) -> io::Result<()>
+        requires { C.IsAlwaysCallable case }
+    {
+        for _ in 0..MOST_CASES {
+            if self.file.fill_buf()?.is_empty() {
+                break;
+            }
+            case(self)?;
         }
-        done += n;
+        Ok(())
     }
-    Ok(done)
-}
 
-pub(crate) fn byte(list: &mut impl Read) -> io::Result<Next> {
-    let mut b = [0u8; 1];
-    let n = read_full(list, &mut b)?;
-    if n == 1 {
-        return Ok(Next::Byte(b[0]));
-    }
-    Ok(Next::End)
-}
-
-pub(crate) fn number(list: &mut impl Read) -> io::Result<u32> {
-    let mut b = [0u8; 4];
-    read_full(list, &mut b)?;
-    Ok(wire::get_u32(&b, 0))
-}
-
-// A number whose first byte was read already: that byte says whether there is a case.
-pub(crate) fn number_after(list: &mut impl Read, low: u8) -> io::Result<u32> {
-    let mut b = [0u8; 3];
-    read_full(list, &mut b)?;
-    let middle = wire::get_u16(&b, 0) as u32;
-    let high = wire::get_u8(&b, 2) as u32;
-    Ok(low as u32 + 256 * middle + 16777216 * high)
-}
-
-// n bytes of a buffer from a place on, read where they lie in it.
-pub(crate) fn bytes(
-    list: &mut impl Read,
-    buffer: &mut [u8],
-    from: usize,
-    n: usize,
-) -> io::Result<()> {
-    if from <= buffer.len() {
-        if n <= buffer.len() - from {
-            let end = from + n;
-            read_full(list, &mut buffer[from..end])?;
+    // Where the list ends early, the rest of the buffer stays as it is.
+    pub(crate) fn fill(&mut self, buffer: &mut [u8]) -> io::Result<()> {
+        for (to, from) in buffer.iter_mut().zip(self.file.by_ref().bytes()) {
+            *to = from?;
         }
+        Ok(())
     }
-    Ok(())
+
+    pub(crate) fn byte(&mut self) -> io::Result<Option<u8>> {
+        self.file.by_ref().bytes().next().transpose()
+    }
+
+    // The bytes that a number lacks at the list's end are 0.
+    pub(crate) fn number(&mut self) -> io::Result<u32> {
+        let mut bytes = [0u8; 4];
+        self.fill(&mut bytes)?;
+        Ok(u32::from_le_bytes(bytes))
+    }
+}
+
+// The pattern again and again, cut at the end; of an empty one, zeros.
+pub(crate) fn repeat(to: &mut [u8], pattern: &[u8]) {
+    to.fill(0);
+    for (to, from) in to.iter_mut().zip(pattern.iter().cycle()) {
+        *to = *from;
+    }
 }

@@ -1,129 +1,85 @@
 // Units, lowered: the counts, the code and the relocations, or the refusal.
-use crate::input::Next;
-use crate::{hash, input, output};
-use std::fs;
+use crate::hash;
+use crate::input::{self, List};
+use crate::output::{self, Hex};
+use std::alloc::{AllocError, Global};
+use std::fmt;
 use std::io::{self, Read};
 use std::rt::Files;
-use tracepoint::Compiled;
+
+// Room for the longest unit, the longest code and the most relocation numbers of the list.
+#[derive(Drop)]
+struct Room {
+    unit: Vec<u8>,
+    code: Vec<u8>,
+    relocs: Vec<u32>,
+}
+
+impl Room {
+    fn new(alloc: Global) -> Result<Self, AllocError> {
+        Ok(Room {
+            unit: vec![in alloc; 0; 131072]?,
+            code: vec![in alloc; 0; 524288]?,
+            relocs: vec![in alloc; 0; 8192]?,
+        })
+    }
+}
 
 fn code_told(out: &impl Print, code: &[u8]) -> io::Result<()> {
     if code.len() <= 3200 {
-        output::hex(out, code)?;
+        println!(out; "{}", Hex(code))
     } else {
-        output::word(out, b"fnv1a ")?;
-        output::hex_of(out, hash::bytes(code), 16)?;
+        println!(out; "fnv1a {:016x}", hash::fnv1a(code.iter().copied()))
     }
-    output::word(out, b"\n")
 }
 
-fn wide(n: u32) -> u64 {
-    n as u64
-}
+// The first so many pairs.
+#[derive(Clone, Copy)]
+struct Pairs<'a>(&'a [u32], u32);
 
-fn number_at(relocs: &[u32], i: usize) -> u64 {
-    if i < relocs.len() {
-        return wide(relocs[i]);
-    }
-    0
-}
-
-// Pairs, blanks between them.
-fn pairs_told(out: &impl Print, relocs: &[u32], count: u32) -> io::Result<()> {
-    for i in 0..count {
-        if 0 < i {
-            output::word(out, b" ")?;
+impl fmt::Display for Pairs<'_> {
+    fn fmt<W: fmt::Write>(&self, f: &mut fmt::Formatter<W>) -> fmt::Result {
+        for (i, pair) in self.0.chunks_exact(2).take(self.1 as usize).enumerate() {
+            if i > 0 {
+                f.write_str(" ")?;
+            }
+            write!(f, "{}:{}", pair[0], pair[1])?;
         }
-        output::decimal(out, number_at(relocs, 2 * (i as usize)))?;
-        output::word(out, b":")?;
-        output::decimal(out, number_at(relocs, 2 * (i as usize) + 1))?;
+        Ok(())
     }
-    output::word(out, b"\n")
-}
-
-fn told(
-    out: &impl Print,
-    slots: u32,
-    relocations: u32,
-    code: &[u8],
-    relocs: &[u32],
-) -> io::Result<()> {
-    output::word(out, b"slots ")?;
-    output::decimal(out, slots as u64)?;
-    output::word(out, b" relocs ")?;
-    output::decimal(out, relocations as u64)?;
-    output::word(out, b"\n")?;
-    let n = 8 * (slots as usize);
-    if n <= code.len() {
-        code_told(out, &code[0..n])?;
-    }
-    pairs_told(out, relocs, relocations)
 }
 
 fn lowered(out: &impl Print, unit: &[u8], code: &mut [u8], relocs: &mut [u32]) -> io::Result<()> {
     match tracepoint::compile_tracepoint(unit, code, relocs) {
-        Compiled::Done(slots, relocations) => told(out, slots, relocations, code, relocs),
-        Compiled::Refused(f) => output::refused(out, tracepoint::refusal(f)),
-    }
-}
-
-fn case(
-    out: &impl Print,
-    list: &mut impl Read,
-    len: usize,
-    unit: &mut [u8],
-    code: &mut [u8],
-    relocs: &mut [u32],
-) -> io::Result<()> {
-    let n = input::number(list)? as usize;
-    let m = input::number(list)? as usize;
-    input::bytes(list, unit, 0, len)?;
-    if len <= unit.len() {
-        if n <= code.len() {
-            if m <= relocs.len() {
-                lowered(out, &unit[0..len], &mut code[0..n], &mut relocs[0..m])?;
+        Ok((n, m)) => {
+            println!(out; "slots {n} relocs {m}")?;
+            if let Some(slots) = code.get(..8 * (n as usize)) {
+                code_told(out, slots)?;
             }
+            println!(out; "{}", Pairs(relocs, m))
         }
+        Err(f) => output::refused(out, tracepoint::refusal(f)),
     }
-    Ok(())
 }
 
-// One case after the other, until the list ends.
-fn cases(
-    out: &impl Print,
-    list: &mut impl Read,
-    unit: &mut [u8],
-    code: &mut [u8],
-    relocs: &mut [u32],
-) -> io::Result<()> {
-    for _ in 0..100000 {
-        let Next::Byte(low) = input::byte(list)? else {
-            return Ok(());
-        };
-        let len = input::number_after(list, low)? as usize;
-        case(out, list, len, unit, code, relocs)?;
+fn case<F: Read>(out: &impl Print, list: &mut List<F>, room: &mut Room) -> io::Result<()> {
+    let len = list.number()? as usize;
+    let n = list.number()? as usize;
+    let m = list.number()? as usize;
+    let Some(unit) = room.unit.as_mut_slice().get_mut(..len) else {
+        return Ok(());
+    };
+    list.fill(unit)?;
+    match (
+        room.code.as_mut_slice().get_mut(..n),
+        room.relocs.as_mut_slice().get_mut(..m),
+    ) {
+        (Some(code), Some(relocs)) => lowered(out, unit, code, relocs),
+        _ => Ok(()),
     }
-    Ok(())
 }
 
-fn list(
-    out: &impl Print,
-    file: &mut impl Read,
-    unit: &mut [u8; 131072],
-    code: &mut [u8; 524288],
-    relocs: &mut [u32; 8192],
-) -> io::Result<()> {
-    cases(out, file, unit, code, relocs)
-}
-
-pub(crate) fn replay(rt: &(impl Files + Print)) -> io::Result<()> {
-    let mut unit = [0u8; 131072];
-    let mut code = [0u8; 524288];
-    let mut relocs = [0u32; 8192];
-    list(
-        rt,
-        &mut fs::open(rt, "lowering")?,
-        &mut unit,
-        &mut code,
-        &mut relocs,
-    )
+pub(crate) fn replay(rt: &(impl Files + Print + AllocGlobal)) -> io::Result<()> {
+    let mut room = Room::new(rt.alloc())?;
+    input::open(rt, "lowering")?.each_case(|list| case(rt, list, &mut room))
 }

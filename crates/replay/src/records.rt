@@ -1,246 +1,156 @@
 // Records, written: the bytes written or the refusal, and the whole buffer.
-use crate::input::Next;
-use crate::{input, output};
+use crate::input::{self, List};
+use crate::output::{self, Hex};
 use ir::{Instruction, Opcode};
-use record::{Due, Head, Read, Record};
-use recordwriter::Written;
+use record::{Due, Head, Record};
+use std::io::{self, Read};
 use std::rt::Files;
-use std::{fs, io};
-
-fn written(
-    out: &impl Print,
-    record: Record,
-    names: &[u8],
-    maps: u16,
-    buffer: &mut [u8],
-) -> io::Result<()> {
-    match recordwriter::write_record(record, names, maps, buffer) {
-        Written::Bytes(n) => {
-            output::word(out, b"wrote ")?;
-            output::decimal(out, n as u64)?;
-            output::word(out, b"\n")?;
-        }
-        Written::Refused(f) => output::refused(out, recordwriter::refusal(f))?,
-    }
-    output::word(out, b"buffer ")?;
-    output::hex(out, buffer)?;
-    output::word(out, b"\n")
-}
 
 // An opcode with another map, which may be one that no unit has.
 fn with_map(o: Opcode, map: u32) -> Opcode {
     match o {
-        Opcode::CallMap { map: _ } => Opcode::CallMap { map: map },
-        Opcode::UpdateMap { map: _ } => Opcode::UpdateMap { map: map },
-        Opcode::RingBufReserve { map: _, size } => Opcode::RingBufReserve {
-            map: map,
-            size: size,
-        },
-        Opcode::RingBufSubmit { map: _ } => Opcode::RingBufSubmit { map: map },
+        Opcode::CallMap { .. } => Opcode::CallMap { map },
+        Opcode::UpdateMap { .. } => Opcode::UpdateMap { map },
+        Opcode::RingBufReserve { size, .. } => Opcode::RingBufReserve { map, size },
+        Opcode::RingBufSubmit { .. } => Opcode::RingBufSubmit { map },
         _ => o,
     }
 }
 
 fn mapped(r: Record, map: u32) -> Record {
     match r {
-        Record::Instruction(i) => {
-            let o = i.opcode;
-            let list = i.operands;
-            Record::Instruction(Instruction {
-                result: i.result,
-                opcode: with_map(o, map),
-                operands: list,
-            })
-        }
+        Record::Instruction(i) => Record::Instruction(Instruction {
+            opcode: with_map(i.opcode, map),
+            ..i
+        }),
         _ => r,
     }
 }
 
-// An instruction or a terminator is read from the bytes of its record, in a unit of as many maps as there can be.
-fn inside(
-    out: &impl Print,
-    bytes: &[u8],
-    map: u32,
-    maps: u16,
-    buffer: &mut [u8],
-) -> io::Result<()> {
-    let Read::Record(r, _) = record::read_record(bytes, 0, Due::Inside, 65535) else {
-        return output::word(out, b"no record\n");
-    };
-    written(out, mapped(r, map), bytes, maps, buffer)
-}
-
 // Where an opcode's map stands in its record: RingBufReserve's is the offset.
-fn map_at(code: u8) -> usize {
-    if code == 11 {
-        return 12;
+fn map_at(code: u8) -> Option<usize> {
+    match code {
+        0..=8 => None,
+        11 => Some(12),
+        _ => Some(16),
     }
-    16
 }
 
 // The map is taken out, so that the record can be read whatever it is.
-fn taken_map(bytes: &mut [u8], code: u8) -> u32 {
-    if code < 9 {
+fn taken_map(bytes: &mut [u8]) -> u32 {
+    let Some(at) = map_at(wire::get_u8(bytes, 8)) else {
         return 0;
-    }
-    let at = map_at(code);
+    };
     let map = wire::get_u32(bytes, at);
     wire::put_u32(bytes, at, 0);
     map
 }
 
-// The record of n payload bytes at the front of `bytes`, whose length and kind are put before it.
-fn framed(
-    out: &impl Print,
-    bytes: &mut [u8],
-    n: u16,
-    kind: u16,
-    map: u32,
-    maps: u16,
-    buffer: &mut [u8],
-) -> io::Result<()> {
-    wire::put_u16(bytes, 0, n);
-    wire::put_u16(bytes, 2, kind);
-    let end = 4 + (n as usize);
-    if end <= bytes.len() {
-        inside(out, &bytes[0..end], map, maps, buffer)?;
-    }
-    Ok(())
+// A record's length and kind, which stand before its payload.
+fn put_frame(record: &mut [u8], payload: u16, kind: u16) {
+    wire::put_u16(record, 0, payload);
+    wire::put_u16(record, 2, kind);
 }
 
-fn instruction_in(
-    out: &impl Print,
-    list: &mut impl io::Read,
-    bytes: &mut [u8],
-    maps: u16,
-    buffer: &mut [u8],
-) -> io::Result<()> {
-    input::bytes(list, bytes, 4, 7)?;
-    input::bytes(list, bytes, 12, 8)?;
-    let code = wire::get_u8(bytes, 8);
-    let operands = 9 * (wire::get_u8(bytes, 10) as u16);
-    input::bytes(list, bytes, 20, operands as usize)?;
-    let map = taken_map(bytes, code);
-    framed(out, bytes, 16 + operands, 4, map, maps, buffer)
+// An instruction's fields, which stand before its operands; the list leaves out a byte that is always 0.
+fn fields_in<F: Read>(list: &mut List<F>, record: &mut [u8; 92]) -> io::Result<()> {
+    list.fill(&mut record[4..11])?;
+    list.fill(&mut record[12..20])
 }
 
-fn instruction(
-    out: &impl Print,
-    list: &mut impl io::Read,
+// Where a record is written, in a unit of so many maps, and where the answer is printed.
+#[derive(Drop)]
+struct Target<'a, P> {
+    out: &'a P,
     maps: u16,
-    buffer: &mut [u8],
-) -> io::Result<()> {
-    let mut bytes = [0u8; 92];
-    instruction_in(out, list, &mut bytes, maps, buffer)
+    buffer: &'a mut [u8],
 }
 
-fn terminator_in(
-    out: &impl Print,
-    list: &mut impl io::Read,
-    bytes: &mut [u8],
-    maps: u16,
-    buffer: &mut [u8],
-) -> io::Result<()> {
-    input::bytes(list, bytes, 4, 1)?;
-    match wire::get_u8(bytes, 4) {
-        0 => {
-            input::bytes(list, bytes, 5, 9)?;
-            framed(out, bytes, 10, 5, 0, maps, buffer)
+impl<P: Print> Target<'_, P> {
+    fn written(self, record: Record, names: &[u8]) -> io::Result<()> {
+        let Target { out, maps, buffer } = self;
+        match recordwriter::write_record(record, names, maps, buffer) {
+            Ok(n) => println!(out; "wrote {n}")?,
+            Err(f) => output::refused(out, recordwriter::refusal(f))?,
         }
-        1 => {
-            input::bytes(list, bytes, 5, 4)?;
-            framed(out, bytes, 5, 5, 0, maps, buffer)
-        }
-        _ => {
-            input::bytes(list, bytes, 5, 17)?;
-            framed(out, bytes, 18, 5, 0, maps, buffer)
-        }
+        println!(out; "buffer {}", Hex(buffer))
     }
-}
 
-fn terminator(
-    out: &impl Print,
-    list: &mut impl io::Read,
-    maps: u16,
-    buffer: &mut [u8],
-) -> io::Result<()> {
-    let mut bytes = [0u8; 22];
-    terminator_in(out, list, &mut bytes, maps, buffer)
-}
-
-fn name(
-    out: &impl Print,
-    list: &mut impl io::Read,
-    maps: u16,
-    buffer: &mut [u8],
-) -> io::Result<()> {
-    let mut names = [0u8; 65540];
-    let len = input::number(list)? as usize;
-    input::bytes(list, &mut names, 0, len)?;
-    written(
-        out,
-        Record::Map { start: 0, len: len },
-        &names,
-        maps,
-        buffer,
-    )
-}
-
-fn head(
-    out: &impl Print,
-    list: &mut impl io::Read,
-    maps: u16,
-    buffer: &mut [u8],
-) -> io::Result<()> {
-    let counts = input::number(list)?;
-    let h = Head {
-        edition: (counts % 65536) as u16,
-        maps: (counts / 65536) as u16,
-        blocks: input::number(list)?,
-    };
-    written(out, Record::Head(h), &[], maps, buffer)
-}
-
-fn value(
-    out: &impl Print,
-    list: &mut impl io::Read,
-    kind: u8,
-    maps: u16,
-    buffer: &mut [u8],
-) -> io::Result<()> {
-    match kind {
-        1 => head(out, list, maps, buffer),
-        2 => name(out, list, maps, buffer),
-        3 => written(out, Record::Block(input::number(list)?), &[], maps, buffer),
-        4 => instruction(out, list, maps, buffer),
-        _ => terminator(out, list, maps, buffer),
+    // An instruction or a terminator is read from the bytes of its record, in a unit of as many maps as there can be.
+    fn inside(self, bytes: &[u8], map: u32) -> io::Result<()> {
+        let Ok((r, _)) = record::read_record(bytes, 0, Due::Inside, 65535) else {
+            let out = self.out;
+            return println!(out; "no record");
+        };
+        self.written(mapped(r, map), &[])
     }
-}
 
-fn case(out: &impl Print, list: &mut impl io::Read, room: usize) -> io::Result<()> {
-    let maps = input::number(list)?;
-    let Next::Byte(kind) = input::byte(list)? else {
-        return Ok(());
-    };
-    let mut buffer = [170u8; 256];
-    if room <= 256 {
-        value(out, list, kind, (maps % 65536) as u16, &mut buffer[0..room])?;
-    }
-    Ok(())
-}
-
-// One case after the other, until the list ends.
-fn cases(out: &impl Print, list: &mut impl io::Read) -> io::Result<()> {
-    for _ in 0..100000 {
-        let Next::Byte(low) = input::byte(list)? else {
+    fn instruction<F: Read>(self, list: &mut List<F>) -> io::Result<()> {
+        let mut bytes = [0u8; 92];
+        fields_in(list, &mut bytes)?;
+        let operands = 9 * u16::from(bytes[10]);
+        let Some(record) = bytes.get_mut(..20 + operands as usize) else {
             return Ok(());
         };
-        let room = input::number_after(list, low)? as usize;
-        case(out, list, room)?;
+        list.fill(&mut record[20..])?;
+        let map = taken_map(record);
+        put_frame(record, 16 + operands, 4);
+        self.inside(record, map)
     }
-    Ok(())
+
+    fn terminator<F: Read>(self, list: &mut List<F>) -> io::Result<()> {
+        let mut bytes = [0u8; 22];
+        list.fill(&mut bytes[4..5])?;
+        let payload = match bytes[4] {
+            0 => 10,
+            1 => 5,
+            _ => 18,
+        };
+        let record = &mut bytes[..4 + payload as usize];
+        list.fill(&mut record[5..])?;
+        put_frame(record, payload, 5);
+        self.inside(record, 0)
+    }
+
+    fn name<F: Read>(self, list: &mut List<F>) -> io::Result<()> {
+        let mut names = [0u8; 65540];
+        let len = list.number()? as usize;
+        if let Some(name) = names.get_mut(..len) {
+            list.fill(name)?;
+        }
+        self.written(Record::Map { start: 0, len }, &names)
+    }
 }
 
-pub(crate) fn replay(rt: &(impl Files + Print)) -> io::Result<()> {
-    cases(rt, &mut fs::open(rt, "records")?)
+fn head<F: Read>(list: &mut List<F>) -> io::Result<Head> {
+    let counts = list.number()?;
+    Ok(Head {
+        edition: (counts % 65536) as u16,
+        maps: (counts / 65536) as u16,
+        blocks: list.number()?,
+    })
+}
+
+fn case<F: Read>(out: &impl Print, list: &mut List<F>) -> io::Result<()> {
+    let room = list.number()? as usize;
+    let maps = (list.number()? % 65536) as u16;
+    let Some(kind) = list.byte()? else {
+        return Ok(());
+    };
+    let mut bytes = [0xaau8; 256];
+    let Some(buffer) = bytes.get_mut(..room) else {
+        return Ok(());
+    };
+    let to = Target { out, maps, buffer };
+    match kind {
+        1 => to.written(Record::Head(head(list)?), &[]),
+        2 => to.name(list),
+        3 => to.written(Record::Block(list.number()?), &[]),
+        4 => to.instruction(list),
+        _ => to.terminator(list),
+    }
+}
+
+pub(crate) fn replay(rt: &(impl Files + Print + AllocGlobal)) -> io::Result<()> {
+    input::open(rt, "records")?.each_case(|list| case(rt, list))
 }

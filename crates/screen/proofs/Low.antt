@@ -29,6 +29,7 @@ use Rattle.paths.specs.Registers.{argument, reads}
 use Rattle.screen.specs.Parts.{Apt}
 use Rattle.screen.specs.Verdict.{fine, before_paths}
 use Rattle.screen.proofs.Before.{parts}
+use Rattle.std.specs.Prelude.{Ok}
 
 -- ---- the registers that an instruction reads
 
@@ -63,7 +64,7 @@ zero_form : (b : List ℕ) (s : ℕ) → all_zero (at b s) ≡ true → form_at 
 unfolding all_zero form_at form_of size_field
 zero_form b s e = rw (eqb-true (at b s).code 0 (both_true _ _ e).0)
 
-second_form : (b : List ℕ) (s : ℕ) → wide b s ≡ true → shape_at b s ≡ S.Fine → form_at b (suc s) ≡ NoForm
+second_form : (b : List ℕ) (s : ℕ) → wide b s ≡ true → shape_at b s ≡ Ok tt → form_at b (suc s) ≡ NoForm
 unfolding uses known
 second_form b s w e =
     let k = rw ((wide_form b s).0 w) at (fine_rules b s e).form in

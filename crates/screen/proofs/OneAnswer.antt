@@ -7,8 +7,9 @@ use native.Mathlib.Omega.{arith}
 use lib.ListN.{length}
 use Rattle.paths.specs.Way.{Clear, Lacking}
 use Rattle.paths.proofs.Unique.{not_both, one_table}
-use Rattle.screen.specs.declared.Verdict.{Verdict}
 use Rattle.screen.specs.Verdict.{Before, fine, refused, before_paths, Judged, passed, unreadable, past, ScreenedAfter, Screened}
+use Rattle.screen.specs.declared.Fault.{Fault}
+use Rattle.std.specs.Prelude.{Result, ⊤}
 
 -- a slot at fault is not clear
 pub at_fault : {b : List ℕ} {s r : ℕ} → Lacking b s r → Clear b s → ⊥
@@ -32,7 +33,7 @@ one_fault b s t q r L c M d =
     let e : s ≡ t = lowest s t (λ l. at_fault L (d s l)) (λ l. at_fault M (c t l)) in
     (e, one_register b t q r (rw e at L) M)
 
-one_judged : (b : List ℕ) {v w : Verdict} → Judged b v → Judged b w → v ≡ w
+one_judged : (b : List ℕ) {v w : Result ⊤ Fault} → Judged b v → Judged b w → v ≡ w
 one_judged b (passed c p) (passed d q) = refl
 one_judged b (passed c p) (unreadable M d) = absurd (at_fault M (c _ M.inside))
 one_judged b (passed c p) (past d q) = absurd (p q)
@@ -43,7 +44,7 @@ one_judged b (past c p) (passed d q) = absurd (q p)
 one_judged b (past c p) (unreadable M d) = absurd (at_fault M (c _ M.inside))
 one_judged b (past c p) (past d q) = refl
 
-pub one_verdict : (b l t : List ℕ) (v w : Verdict) (u x : List ℕ) → Screened b l t v u → Screened b l t w x → (v ≡ w) × (u ≡ x)
+pub one_verdict : (b l t : List ℕ) (v w : Result ⊤ Fault) (u x : List ℕ) → Screened b l t v u → Screened b l t w x → (v ≡ w) × (u ≡ x)
 one_verdict b l t v w u x p q = go (before_paths b l (length t)) p q
   where
     go : (before : Before) → ScreenedAfter before b t v u → ScreenedAfter before b t w x → (v ≡ w) × (u ≡ x)

@@ -16,31 +16,30 @@ use Rattle.paths.specs.Way.{Reached}
 use Rattle.paths.specs.Readable.{Filled}
 use Rattle.paths.proofs.Unreached.{below_reached, no_path_full}
 use Rattle.screen.specs.declared.Fault.TheVariants.{BadLength, ShortTable}
-use Rattle.screen.specs.declared.Verdict.{Verdict}
-use Rattle.screen.specs.declared.Verdict.TheVariants.{Refused}
-use Rattle.screen.specs.Verdict.{Before, fine, refused, of_shape, of_shapes, before_paths, Judged, passed, unreadable, past, ScreenedAfter, Screened, fills}
+use Rattle.screen.specs.Verdict.{Before, fine, refused, of_shape, of_fault, of_shapes, before_paths, Judged, passed, unreadable, past, ScreenedAfter, Screened, fills}
+use Rattle.screen.specs.declared.Fault.{Fault}
+use Rattle.std.specs.Prelude.{Err, Ok, Result, ⊤}
 
 -- ---- what is refused before the paths leaves the table
 
 abbrev Leaves : Before → Type 0
 Leaves fine = Unit {0}
-Leaves (refused f) = fills (Refused f) ≡ false
+Leaves (refused f) = fills (Err f) ≡ false
 
-shape_leaves : (s : ℕ) (f : Shape) → Leaves (of_shape s f)
+shape_leaves : (s : ℕ) (f : Shape) → fills (Err (of_shape s f)) ≡ false
 unfolding of_shape fills
-shape_leaves s S.Fine = tt
 shape_leaves s S.Unknown = refl
 shape_leaves s S.Register = refl
 shape_leaves s S.Unused = refl
 shape_leaves s S.Access = refl
 shape_leaves s S.Target = refl
 
-shapes_leave : (x : Shapes) → Leaves (of_shapes x)
-unfolding of_shapes fills
-shapes_leave Ss.Fine = tt
-shapes_leave Ss.BadLength = refl
-shapes_leave (Ss.Faulty s f) = shape_leaves s f
-shapes_leave (Ss.Relocation k) = refl
+shapes_leave : (x : Result ⊤ Shapes) → Leaves (of_shapes x)
+unfolding of_shapes of_fault fills
+shapes_leave (Ok _) = tt
+shapes_leave (Err Ss.BadLength) = refl
+shapes_leave (Err (Ss.Faulty s f)) = shape_leaves s f
+shapes_leave (Err (Ss.Relocation k)) = refl
 
 before_leaves : (b l : List ℕ) (entries : ℕ) → Leaves (before_paths b l entries)
 unfolding before_paths fills
@@ -51,7 +50,7 @@ before_leaves b l entries = go (length_ok b) (leb (slots b) entries)
     go true false = refl
     go false y = refl
 
-judged_fills : {b : List ℕ} {v : Verdict} → Judged b v → fills v ≡ true
+judged_fills : {b : List ℕ} {v : Result ⊤ Fault} → Judged b v → fills v ≡ true
 unfolding fills
 judged_fills (passed c p) = refl
 judged_fills (unreadable L c) = refl
@@ -59,7 +58,7 @@ judged_fills (past c p) = refl
 
 -- ---- the table
 
-module _ (b l t : List ℕ) (v : Verdict) (u : List ℕ) (P : Screened b l t v u) where
+module _ (b l t : List ℕ) (v : Result ⊤ Fault) (u : List ℕ) (P : Screened b l t v u) where
   pub filled : fills v ≡ true → Filled b t u
   filled e = go (before_paths b l (length t)) (before_leaves b l (length t)) P
     where

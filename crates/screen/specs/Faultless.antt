@@ -1,5 +1,5 @@
 -- Code without a fault.
-use Rattle.std.specs.Prelude.{ℕ, ◌<◌, true, ◌≡◌, List}
+use Rattle.std.specs.Prelude.{ℕ, ◌<◌, true, ◌≡◌, List, Ok}
 use Rattle.shape.specs.Code.{slots}
 use Rattle.shape.specs.Shapes.{length_ok, judged}
 use Rattle.shape.specs.declared.Shapes.TheVariants as Ss
@@ -10,4 +10,4 @@ abbrev pub NoPathFault : List ℕ → Type 0
 NoPathFault b = ((s : ℕ) → s < slots b → Clear b s) × (Passes b → ⊥)
 
 abbrev pub NoFault : List ℕ → List ℕ → Type 0
-NoFault b l = (length_ok b ≡ true) × ((judged b l ≡ Ss.Fine) × NoPathFault b)
+NoFault b l = (length_ok b ≡ true) × ((judged b l ≡ Ok tt) × NoPathFault b)

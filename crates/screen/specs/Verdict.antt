@@ -1,5 +1,5 @@
 -- The screen's verdict, and what it leaves in the table.
-use Rattle.std.specs.Prelude.{ℕ, ◌<◌, Bool, true, false, ◌≡◌, List, leb, pos, length}
+use Rattle.std.specs.Prelude.{ℕ, ◌<◌, Bool, true, false, ◌≡◌, List, leb, pos, length, Err, Ok, Result, ⊤}
 use Rattle.wire.specs.Pick.{pick}
 use Rattle.wire.specs.declared.refusal.Refusal.{Refusal}
 use Rattle.shape.specs.Code.{slots}
@@ -12,8 +12,6 @@ use Rattle.paths.specs.Way.{Clear, Lacking, Passes}
 use Rattle.paths.specs.Readable.{Filled}
 use Rattle.screen.specs.declared.Fault.{Fault}
 use Rattle.screen.specs.declared.Fault.TheVariants.{BadLength, ShortTable, Unknown, Register, Unused, Access, Target, Relocation, Unreadable, PastEnd}
-use Rattle.screen.specs.declared.Verdict.{Verdict}
-use Rattle.screen.specs.declared.Verdict.TheVariants.{Yes, Refused}
 
 -- 01's number, place and value of each fault
 unfoldable pub refusal_of : Fault → Refusal
@@ -33,48 +31,50 @@ pub data Before : Type 0 where
   fine : Before
   refused : Fault → Before
 
-unfoldable pub of_shape : ℕ → Shape → Before
-of_shape s S.Fine = fine
-of_shape s S.Unknown = refused (Unknown s)
-of_shape s S.Register = refused (Register s)
-of_shape s S.Unused = refused (Unused s)
-of_shape s S.Access = refused (Access s)
-of_shape s S.Target = refused (Target s)
+unfoldable pub of_shape : ℕ → Shape → Fault
+of_shape s S.Unknown = Unknown s
+of_shape s S.Register = Register s
+of_shape s S.Unused = Unused s
+of_shape s S.Access = Access s
+of_shape s S.Target = Target s
 
-unfoldable pub of_shapes : Shapes → Before
-of_shapes Ss.Fine = fine
-of_shapes Ss.BadLength = refused BadLength
-of_shapes (Ss.Faulty s f) = of_shape s f
-of_shapes (Ss.Relocation k) = refused (Relocation k)
+unfoldable pub of_fault : Shapes → Fault
+of_fault Ss.BadLength = BadLength
+of_fault (Ss.Faulty s f) = of_shape s f
+of_fault (Ss.Relocation k) = Relocation k
+
+unfoldable pub of_shapes : Result ⊤ Shapes → Before
+of_shapes (Ok _) = fine
+of_shapes (Err f) = refused (of_fault f)
 
 unfoldable pub before_paths : List ℕ → List ℕ → ℕ → Before
 before_paths b l entries =
     pick (length_ok b) (pick (leb (slots b) entries) (of_shapes (judged b l)) (refused (ShortTable (slots b)))) (refused BadLength)
 
 -- the verdict on the paths: 38 names the lowest slot and there the lowest register, 39 comes where no slot is at fault
-pub data Judged (b : List ℕ) : Verdict → Type 0 where
-  passed : ((s : ℕ) → s < slots b → Clear b s) → (Passes b → ⊥) → Judged b Yes
-  unreadable : {s r : ℕ} → Lacking b s r → ((t : ℕ) → t < s → Clear b t) → Judged b (Refused (Unreadable s r))
-  past : ((s : ℕ) → s < slots b → Clear b s) → Passes b → Judged b (Refused (PastEnd (slots b)))
+pub data Judged (b : List ℕ) : Result ⊤ Fault → Type 0 where
+  passed : ((s : ℕ) → s < slots b → Clear b s) → (Passes b → ⊥) → Judged b (Ok tt)
+  unreadable : {s r : ℕ} → Lacking b s r → ((t : ℕ) → t < s → Clear b t) → Judged b (Err (Unreadable s r))
+  past : ((s : ℕ) → s < slots b → Clear b s) → Passes b → Judged b (Err (PastEnd (slots b)))
 
 -- the answer v and the table t, which becomes u, after what came before the paths
-abbrev pub ScreenedAfter : Before → List ℕ → List ℕ → Verdict → List ℕ → Type 0
+abbrev pub ScreenedAfter : Before → List ℕ → List ℕ → Result ⊤ Fault → List ℕ → Type 0
 ScreenedAfter fine b t v u = Judged b v × Filled b t u
-ScreenedAfter (refused f) b t v u = (v ≡ Refused f) × (u ≡ t)
+ScreenedAfter (refused f) b t v u = (v ≡ Err f) × (u ≡ t)
 
-abbrev pub Screened : List ℕ → List ℕ → List ℕ → Verdict → List ℕ → Type 0
+abbrev pub Screened : List ℕ → List ℕ → List ℕ → Result ⊤ Fault → List ℕ → Type 0
 Screened b l t v u = ScreenedAfter (before_paths b l (length t)) b t v u
 
 -- yes, 38 and 39, which fill the table
-unfoldable pub fills : Verdict → Bool
-fills Yes = true
-fills (Refused BadLength) = false
-fills (Refused (ShortTable slots)) = false
-fills (Refused (Unknown slot)) = false
-fills (Refused (Register slot)) = false
-fills (Refused (Unused slot)) = false
-fills (Refused (Access slot)) = false
-fills (Refused (Target slot)) = false
-fills (Refused (Relocation index)) = false
-fills (Refused (Unreadable slot register)) = true
-fills (Refused (PastEnd slots)) = true
+unfoldable pub fills : Result ⊤ Fault → Bool
+fills (Ok _) = true
+fills (Err BadLength) = false
+fills (Err (ShortTable slots)) = false
+fills (Err (Unknown slot)) = false
+fills (Err (Register slot)) = false
+fills (Err (Unused slot)) = false
+fills (Err (Access slot)) = false
+fills (Err (Target slot)) = false
+fills (Err (Relocation index)) = false
+fills (Err (Unreadable slot register)) = true
+fills (Err (PastEnd slots)) = true

@@ -1,12 +1,12 @@
 // The screen: code from anyone, judged exactly.
 #![tactic(auto)]
 
-ghost use Rattle.std.specs.Prelude.{◌≡◌, ℕ, ◌<◌, length, get_or};
+ghost use Rattle.std.specs.Prelude.{◌≡◌, ℕ, ◌<◌, length, get_or, Ok};
 ghost use Rattle.std.specs.Int.Count.{count_trailing_zeros};
 ghost use Rattle.shape.specs.Code.{slots};
 ghost use Rattle.paths.specs.Mask.{read_mask, lacking};
 ghost use Rattle.paths.specs.Readable.{Readable, Told};
-ghost use Rattle.screen.specs.Verdict.{refusal_of, of_shape, of_shapes, before_paths, Judged, ScreenedAfter, Screened};
+ghost use Rattle.screen.specs.Verdict.{refusal_of, of_fault, before_paths, Judged, Screened};
 ghost use Rattle.screen.specs.Parts.{so_far, Apt, ended_of};
 
 use paths::Ends;
@@ -29,12 +29,7 @@ pub enum Fault {
     PastEnd(usize),
 }
 
-#[derive(Drop)]
-pub enum Verdict {
-    Yes,
-    Refused(Fault),
-}
-
+#[tactic(auto, unfolding(crate::specs::Verdict::refusal_of))]
 pub fn refusal(f: Fault) -> Refusal
     ensures { result ≡ refusal_of f }
 {
@@ -92,42 +87,38 @@ pub fn refusal(f: Fault) -> Refusal
     }
 }
 
-fn of_shape(slot: usize, shape: Shape) -> Verdict
-    ensures { so_far result ≡ of_shape slot shape }
-{
-    match shape {
-        Shape::Fine => Verdict::Yes,
-        Shape::Unknown => Verdict::Refused(Fault::Unknown(slot)),
-        Shape::Register => Verdict::Refused(Fault::Register(slot)),
-        Shape::Unused => Verdict::Refused(Fault::Unused(slot)),
-        Shape::Access => Verdict::Refused(Fault::Access(slot)),
-        Shape::Target => Verdict::Refused(Fault::Target(slot)),
-    }
-}
+#[tactic(auto, unfolding(crate::specs::Verdict::of_shape, crate::specs::Verdict::of_fault))]
+impl From<Shapes> for Fault {
+    ghost from_gives = { λ shapes f. f ≡ of_fault shapes };
 
-fn of_shapes(shapes: Shapes) -> Verdict
-    ensures { so_far result ≡ of_shapes shapes }
-{
-    match shapes {
-        Shapes::Fine => Verdict::Yes,
-        Shapes::BadLength => Verdict::Refused(Fault::BadLength),
-        Shapes::Faulty(slot, shape) => of_shape(slot, shape),
-        Shapes::Relocation(index) => Verdict::Refused(Fault::Relocation(index)),
+    fn from(shapes: Shapes) -> Fault {
+        match shapes {
+            Shapes::BadLength => Fault::BadLength,
+            Shapes::Faulty(slot, shape) => match shape {
+                Shape::Unknown => Fault::Unknown(slot),
+                Shape::Register => Fault::Register(slot),
+                Shape::Unused => Fault::Unused(slot),
+                Shape::Access => Fault::Access(slot),
+                Shape::Target => Fault::Target(slot),
+            },
+            Shapes::Relocation(index) => Fault::Relocation(index),
+        }
     }
 }
 
 // The verdict before the paths are looked at; yes means so far.
-fn before_paths(code: &[u8], relocs: &[u32], entries: usize) -> Verdict
+fn before_paths(code: &[u8], relocs: &[u32], entries: usize) -> Result<(), Fault>
     ensures { so_far result ≡ before_paths code.now relocs.now entries }
 {
-    if shape::length_ok(code) {
-        let n = code.len() / 8;
-        if entries < n {
-            return Verdict::Refused(Fault::ShortTable(n as u32));
-        }
-        return of_shapes(shape::judge(code, relocs));
+    if !shape::length_ok(code) {
+        return Err(Fault::BadLength);
     }
-    Verdict::Refused(Fault::BadLength)
+    let n = code.len() / 8;
+    if entries < n {
+        return Err(Fault::ShortTable(n as u32));
+    }
+    shape::judge(code, relocs)?;
+    Ok(())
 }
 
 // The registers that are read at a slot and are not in its entry, bit r for register r.
@@ -146,55 +137,39 @@ fn lowest(mask: u16) -> u8
 }
 
 // The verdict where no path lacks a register that is read.
-fn ended(ends: Ends, slots: usize) -> Verdict
+fn ended(ends: Ends, slots: usize) -> Result<(), Fault>
     ensures { result ≡ ended_of ends slots }
 {
     match ends {
-        Ends::Inside => Verdict::Yes,
-        Ends::Past => Verdict::Refused(Fault::PastEnd(slots)),
-        Ends::NotRun => Verdict::Yes,
+        Ends::Inside => Ok(()),
+        Ends::Past => Err(Fault::PastEnd(slots)),
+        Ends::NotRun => Ok(()),
     }
 }
 
 // The verdict by the table that the analysis filled: the lowest slot first.
-fn by_table(code: &[u8], table: &[u16], ends: Ends) -> Verdict
+fn by_table(code: &[u8], table: &[u16], ends: Ends) -> Result<(), Fault>
     requires apt { Apt code.now (length table.now) }
     requires by_index { (s : ℕ) → s < slots code.now → Readable code.now s (get_or table.now s 0) }
     requires told { Told code.now ends }
     ensures { Judged code.now result }
 {
     let n = code.len() / 8;
-    let last = ended(ends, n);
-    let mut s: usize = 0;
-    while s < n {
+    for s in 0..n {
         let lacks = lacking_at(code, table, s);
         if 0 < lacks {
             let register = lowest(lacks);
-            return Verdict::Refused(Fault::Unreadable(s, register));
+            return Err(Fault::Unreadable(s, register));
         }
-        s += 1;
     }
-    last
-}
-
-// The verdict after the one before the paths: only where that is yes are the paths looked at and the table filled.
-fn screen_after(before: Verdict, code: &[u8], table: &mut [u16]) -> Verdict
-    requires { before ≡ Verdict.Yes → Apt code.now (length table.old) }
-    ensures { ScreenedAfter (so_far before) code.now table.old result table.new }
-{
-    match before {
-        Verdict::Yes => {
-            let ends = paths::analyse(code, table);
-            by_table(code, table, ends)
-        }
-        Verdict::Refused(f) => Verdict::Refused(f),
-    }
+    ended(ends, n)
 }
 
 // The verdict; the table is filled unless the code is refused before its paths are looked at.
-pub fn screen(code: &[u8], relocs: &[u32], table: &mut [u16]) -> Verdict
+pub fn screen(code: &[u8], relocs: &[u32], table: &mut [u16]) -> Result<(), Fault>
     ensures { Screened code.now relocs.now table.old result table.new }
 {
-    let before = before_paths(code, relocs, table.len());
-    screen_after(before, code, table)
+    before_paths(code, relocs, table.len())?;
+    let ends = paths::analyse(code, table);
+    by_table(code, table, ends)
 }

@@ -3,7 +3,6 @@ pub mod Lengths
 pub mod Judged
 pub mod Rules
 pub mod Tests
-mod Uses
 mod Members
 mod Signs
 mod Passes

@@ -6,11 +6,12 @@ use Prim.Native.Nat.{ℕ, ◌/◌, ◌%◌, ◌^◌, ◌≤◌, ◌<◌}
 use native.Mathlib.Decide.{ℕ_discrete, dec_lt}
 use native.Mathlib.Omega.{arith}
 use lib.Bits.{bit_or}
-use lib.ListN.{length, get_or, replicate, length-set, length-replicate, get_or-replicate, get_or-eq_default}
+use lib.ListN.{length, get_or, replicate, length-set, length-replicate}
 use lib.Seq.{get_or-set_same, get_or-set_other}
+use Rattle.std.proofs.lemmas.Grind.{common_steps}
 use Rattle.wire.proofs.Bits.{bit_of_zero, or_pow, or_pow_other}
-use Rattle.shape.specs.Code.{slots, start}
-use Rattle.shape.specs.Set.{member, with, after, Starts}
+use Rattle.shape.specs.Code.{start}
+use Rattle.shape.specs.Set.{member, with, after}
 use Rattle.shape.proofs.Starts.{start_first, start_after, start_between, after_more}
 
 -- ---- the set
@@ -34,11 +35,7 @@ module _ (d : List ℕ) (v : ℕ) where
       go (no e) = rw (get_or-set_other d (v / 64) (u / 64) word 0 e)
 
 empty : (n j : ℕ) → get_or {A = ℕ} (replicate n 0) j 0 ≡ 0
-empty n j = go (dec_lt j n)
-  where
-    go : Dec (j < n) → get_or {A = ℕ} (replicate n 0) j 0 ≡ 0
-    go (yes h) = get_or-replicate {A = ℕ} n j 0 0 h
-    go (no h) = get_or-eq_default {A = ℕ} (replicate n 0) 0 {n = j} (omega (arith, length-replicate {A = ℕ} n 0))
+empty n j = grind (arith, common_steps)
 
 -- ---- the starts before the start s are in the set, and no slot from s on
 pub record Filled (b d : List ℕ) (s : ℕ) : Type 0 where
@@ -72,6 +69,3 @@ filled_more b d s h F =
     go u l m (yes e) _ = rw e (member_same d s l ∙ sym F.here)
     go u l m (no n) (yes k) = member_other d s u l n ∙ F.before u k
     go u l m (no n) (no k) = member_other d s u l n ∙ F.from u (omega arith) ∙ sym (start_between b s F.here u (omega arith) m)
-
-pub filled_all : (b d : List ℕ) (s : ℕ) → slots b ≤ s → Filled b d s → Starts b d
-filled_all b d s h F = record { at = λ u l. F.before u (omega arith) }

@@ -17,6 +17,7 @@ use Rattle.shape.specs.declared.Shape.{Shape}
 use Rattle.shape.specs.declared.Shape.TheVariants as S
 use Rattle.shape.specs.declared.Shapes.TheVariants as Ss
 use Rattle.shape.proofs.Starts.{start_first, start_second, start_after}
+use Rattle.std.specs.Prelude.{Ok, Result, ⊤}
 
 -- F goes over the n slots from s on, with f at the starts
 module _ {A : Type 0} (b : List ℕ) (z : A) (f : ℕ → A → A) (F : ℕ → ℕ → A) (none : (s : ℕ) → F s 0 ≡ z)
@@ -53,19 +54,19 @@ unfolding shapes
 going_all b = let e : slots b - 0 ≡ slots b = omega arith in record { here = start_first b; rest = rw e }
 
 module _ (b : List ℕ) (s : ℕ) (G : Going b s) where
-  pub going_fault : s < slots b → (f : Shape) → shape_at b s ≡ f → or_else s f (shapes_from b (after b s) (slots b - after b s)) ≡ shapes b
+  pub going_fault : s < slots b → (f : Result ⊤ Shape) → shape_at b s ≡ f → or_else s f (shapes_from b (after b s) (slots b - after b s)) ≡ shapes b
   unfolding shapes_from
   going_fault h f e =
-      rw (← e) (sym (at_start_lem b Ss.Fine (λ s r. or_else s (shape_at b s) r) (shapes_from b) (λ s. refl) (λ s n. refl) (slots b) s h G.here))
+      rw (← e) (sym (at_start_lem b (Ok tt) (λ s r. or_else s (shape_at b s) r) (shapes_from b) (λ s. refl) (λ s n. refl) (slots b) s h G.here))
       ∙ G.rest
 
-  pub going_on : s < slots b → shape_at b s ≡ S.Fine → Going b (after b s)
+  pub going_on : s < slots b → shape_at b s ≡ Ok tt → Going b (after b s)
   unfolding or_else
-  going_on h e = record { here = start_after b s G.here; rest = going_fault h S.Fine e }
+  going_on h e = record { here = start_after b s G.here; rest = going_fault h (Ok tt) e }
 
-  pub going_end : slots b ≤ s → Ss.Fine ≡ shapes b
+  pub going_end : slots b ≤ s → Ok tt ≡ shapes b
   unfolding shapes_from
-  going_end h = sym (at_end b Ss.Fine (λ s r. or_else s (shape_at b s) r) (shapes_from b) (λ s. refl) (λ s n. refl) (slots b) s h) ∙ G.rest
+  going_end h = sym (at_end b (Ok tt) (λ s r. or_else s (shape_at b s) r) (shapes_from b) (λ s. refl) (λ s n. refl) (slots b) s h) ∙ G.rest
 
 -- the wide instructions from a start on
 module _ (b : List ℕ) (n s : ℕ) where

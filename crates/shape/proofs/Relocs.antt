@@ -15,15 +15,14 @@ use Rattle.shape.specs.Code.{slots, wide, start}
 use Rattle.shape.specs.Set.{after}
 use Rattle.shape.specs.Pair.{pair_at}
 use Rattle.shape.specs.Relocations.{wide_from, wide_offsets, differs, relocations}
-use Rattle.shape.specs.declared.Relocations.{Relocations}
-use Rattle.shape.specs.declared.Relocations.TheVariants.{Exact, Differs}
 use Rattle.shape.proofs.Starts.{start_first, start_narrow, start_wide}
 use Rattle.shape.proofs.Passes.{wides_end, wides_start}
+use Rattle.std.specs.Prelude.{Err, Ok, Result, ⊤}
 
 -- a pair that differs, or the rest
-abbrev or_differs : Relocations → Relocations → Relocations
-or_differs Exact rest = rest
-or_differs (Differs k) rest = Differs k
+abbrev or_differs : Result ⊤ ℕ → Result ⊤ ℕ → Result ⊤ ℕ
+or_differs (Ok _) rest = rest
+or_differs (Err k) rest = Err k
 
 -- the list from k on against one offset and the rest
 one_pair : (l : List ℕ) (k s : ℕ) (os : List ℕ) → differs k (bytes_before s ∷ os) (drop k l) ≡ or_differs (pair_at l k s) (differs (k + 2) os (drop (k + 2) l))
@@ -31,32 +30,32 @@ unfolding differs pair_at
 one_pair l k s os = go (leb (length l) k) refl (leb (length l) (suc k)) refl (eqb (get_or l k 0) (bytes_before s)) refl
   where
     go : (x : Bool) → leb (length l) k ≡ x → (y : Bool) → leb (length l) (suc k) ≡ y → (t : Bool) → eqb (get_or l k 0) (bytes_before s) ≡ t
-        → differs k (bytes_before s ∷ os) (drop k l) ≡ or_differs (pick x (Differs k) (pick t (pick y (Differs (suc k)) Exact) (Differs k))) (differs (k + 2) os (drop (k + 2) l))
+        → differs k (bytes_before s ∷ os) (drop k l) ≡ or_differs (pick x (Err k) (pick t (pick y (Err (suc k)) (Ok tt)) (Err k))) (differs (k + 2) os (drop (k + 2) l))
     go true x y f t g = rw (drop_of_length-le l {i = k} (leb-true _ _ x))
     go false x true f t g =
         rw (drop-cons l k 0 (leb-false _ _ x), drop_of_length-le l {i = suc k} (leb-true _ _ f), g) (one t)
       where
-        one : (t : Bool) → pick t (Differs (suc k)) (Differs k) ≡ or_differs (pick t (Differs (suc k)) (Differs k)) (differs (k + 2) os (drop (k + 2) l))
+        one : (t : Bool) → pick t (Err (suc k)) (Err k) ≡ or_differs (pick t (Err (suc k)) (Err k)) (differs (k + 2) os (drop (k + 2) l))
         one true = refl
         one false = refl
     go false x false f t g =
         let e : k + 2 ≡ suc (suc k) = omega arith in
         rw (drop-cons l k 0 (leb-false _ _ x), drop-cons l (suc k) 0 (leb-false _ _ f), g, e) (two t)
       where
-        two : (t : Bool) → pick t (differs (suc (suc k)) os (drop (suc (suc k)) l)) (Differs k) ≡ or_differs (pick t Exact (Differs k)) (differs (suc (suc k)) os (drop (suc (suc k)) l))
+        two : (t : Bool) → pick t (differs (suc (suc k)) os (drop (suc (suc k)) l)) (Err k) ≡ or_differs (pick t (Ok tt) (Err k)) (differs (suc (suc k)) os (drop (suc (suc k)) l))
         two true = refl
         two false = refl
 
 -- where the pair is exact, two numbers were there
-pub pair_exact : (l : List ℕ) (k s : ℕ) → pair_at l k s ≡ Exact → k + 2 ≤ length l
+pub pair_exact : (l : List ℕ) (k s : ℕ) → pair_at l k s ≡ Ok tt → k + 2 ≤ length l
 unfolding pair_at
 pair_exact l k s e = go (leb (length l) k) refl (leb (length l) (suc k)) refl (eqb (get_or l k 0) (bytes_before s)) e
   where
-    never : (j : ℕ) → Differs j ≡ Exact → ⊥
+    never : (j : ℕ) → ◌≡◌ {A = Result ⊤ ℕ} (Err j) (Ok tt) → ⊥
     never j p = let z : ◌≡◌ {A = ℕ} 0 1 = cc in omega arith
 
     go : (x : Bool) → leb (length l) k ≡ x → (y : Bool) → leb (length l) (suc k) ≡ y → (t : Bool)
-        → pick x (Differs k) (pick t (pick y (Differs (suc k)) Exact) (Differs k)) ≡ Exact → k + 2 ≤ length l
+        → pick {A = Result ⊤ ℕ} x (Err k) (pick t (pick y (Err (suc k)) (Ok tt)) (Err k)) ≡ Ok tt → k + 2 ≤ length l
     go true x y f t p = absurd (never k p)
     go false x true f true p = absurd (never (suc k) p)
     go false x true f false p = absurd (never k p)
@@ -88,19 +87,19 @@ module _ (b l : List ℕ) (s k : ℕ) (L : Left b l s k) where
         rest = sym (ap (λ (os : List ℕ). differs k os (drop k l)) (wides_start b (slots b) s h L.here ∙ rw e)) ∙ L.rest;
       }
 
-  pub left_wide : s < slots b → wide b s ≡ true → pair_at l k s ≡ Exact → Left b l (s + 2) (k + 2)
+  pub left_wide : s < slots b → wide b s ≡ true → pair_at l k s ≡ Ok tt → Left b l (s + 2) (k + 2)
   left_wide h e p =
       let q : s + 2 ≡ suc (suc s) = omega arith in
       record { here = rw q (start_wide b s L.here e); most = pair_exact l k s p; rest = sym (wide_here h e ∙ rw p) }
 
-  pub left_differs : (j : ℕ) → s < slots b → wide b s ≡ true → pair_at l k s ≡ Differs j → Differs j ≡ relocations b l
+  pub left_differs : (j : ℕ) → s < slots b → wide b s ≡ true → pair_at l k s ≡ Err j → Err j ≡ relocations b l
   left_differs j h e p = sym (wide_here h e ∙ rw p)
 
   -- at the end of the code
-  pub left_end : slots b ≤ s → length l ≤ k → Exact ≡ relocations b l
+  pub left_end : slots b ≤ s → length l ≤ k → Ok tt ≡ relocations b l
   unfolding differs
   left_end h e = rw (wides_end b (slots b) s h, drop_of_length-le l {i = k} e) at L.rest
 
-  pub left_over : slots b ≤ s → k < length l → Differs k ≡ relocations b l
+  pub left_over : slots b ≤ s → k < length l → Err k ≡ relocations b l
   unfolding differs
   left_over h e = rw (wides_end b (slots b) s h, drop-cons l k 0 e) at L.rest

@@ -26,6 +26,7 @@ use Rattle.shape.specs.Shape.{known, registers_ok, unused_zero, access_ok, targe
 use Rattle.shape.specs.declared.Shape.TheVariants as S
 use Rattle.shape.proofs.Tests.{both_true, three_true, implied}
 use Rattle.shape.proofs.Starts.{start_narrow, start_wide}
+use Rattle.std.specs.Prelude.{Ok}
 
 -- ---- the five rules
 
@@ -36,7 +37,7 @@ pub record Rules (b : List ℕ) (s : ℕ) : Type 0 where
   pub access : access_ok (at b s) (uses (form_at b s)).kind ≡ true
   pub jump : implies (uses (form_at b s)).jumps (is_start b (target s (at b s).off)) ≡ true
 
-none_broken : (k r u a t : Bool) → first_broken k r u a t ≡ S.Fine → (k ≡ true) × (r ≡ true) × (u ≡ true) × (a ≡ true) × (t ≡ true)
+none_broken : (k r u a t : Bool) → first_broken k r u a t ≡ Ok tt → (k ≡ true) × (r ≡ true) × (u ≡ true) × (a ≡ true) × (t ≡ true)
 unfolding first_broken
 none_broken true true true true true e = (refl, refl, refl, refl, refl)
 none_broken true true true true false e = let z : ◌≡◌ {A = ℕ} 0 1 = cc in absurd (omega arith)
@@ -45,13 +46,13 @@ none_broken true true false a t e = let z : ◌≡◌ {A = ℕ} 0 1 = cc in absu
 none_broken true false u a t e = let z : ◌≡◌ {A = ℕ} 0 1 = cc in absurd (omega arith)
 none_broken false r u a t e = let z : ◌≡◌ {A = ℕ} 0 1 = cc in absurd (omega arith)
 
-pub fine_rules : (b : List ℕ) (s : ℕ) → shape_at b s ≡ S.Fine → Rules b s
+pub fine_rules : (b : List ℕ) (s : ℕ) → shape_at b s ≡ Ok tt → Rules b s
 unfolding shape_at shape_of
 fine_rules b s e =
     let p = none_broken _ _ _ _ _ e in
     record { form = p.0; registers = p.1; unused = p.2; access = p.3; jump = p.4 }
 
-pub rules_fine : (b : List ℕ) (s : ℕ) → Rules b s → shape_at b s ≡ S.Fine
+pub rules_fine : (b : List ℕ) (s : ℕ) → Rules b s → shape_at b s ≡ Ok tt
 unfolding shape_at shape_of first_broken
 rules_fine b s R = rw (R.form, R.registers, R.unused, R.access, R.jump)
 

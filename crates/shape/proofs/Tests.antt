@@ -1,8 +1,8 @@
--- Tests of tests: what follows from one that is true, and the code's `!x | y` and `x | y` as the definitions' `implies`.
+-- Tests of tests: what follows from one that is true.
 use mathlib.Core.Path.{◌≡◌, refl, sym}
-use mathlib.Core.Bool.{Bool, true, false, true≢false, ◌||◌, not}
+use mathlib.Core.Bool.{Bool, true, false, true≢false}
 use mathlib.Core.Logic.{◌⊎◌, inl, inr}
-use Rattle.wire.specs.Pick.{both, either, implies, not as negated}
+use Rattle.wire.specs.Pick.{both, either, implies}
 
 pub both_true : (x y : Bool) → both x y ≡ true → (x ≡ true) × (y ≡ true)
 both_true true y e = (refl, e)
@@ -21,11 +21,3 @@ either_true false y e = inr e
 pub implied : (x y : Bool) → implies x y ≡ true → x ≡ true → y ≡ true
 implied true y e h = e
 implied false y e h = absurd (true≢false (sym h))
-
-pub implies_or : (x y : Bool) → not x || y ≡ implies x y
-implies_or true y = refl
-implies_or false y = refl
-
-pub or_unused : (x y : Bool) → x || y ≡ implies (negated x) y
-or_unused true y = refl
-or_unused false y = refl

@@ -1,5 +1,5 @@
 -- The shape rules 32 to 36 of one instruction, lowest number first.
-use Rattle.std.specs.Prelude.{ℕ, suc, ◌%◌, Bool, true, false, List, eqb, leb, ltb, ℤ, pos, negsuc, ◌+ℤ◌}
+use Rattle.std.specs.Prelude.{ℕ, suc, ◌%◌, Bool, true, false, Option, Some, None, List, eqb, leb, ltb, ℤ, pos, negsuc, ◌+ℤ◌, Err, Ok, Result, ⊤}
 use Rattle.wire.specs.Pick.{pick, both, not, implies, is_zero}
 use Rattle.insn.specs.Helper.{helper_of, is_helper}
 use Rattle.insn.specs.declared.Insn.{Insn}
@@ -50,20 +50,25 @@ access_ok i other = true
 unfoldable pub target : ℕ → ℤ → ℤ
 target s off = pos (suc s) +ℤ off
 
+-- that slot, unless it lies before the first
+unfoldable pub landing : ℤ → Option ℕ
+landing (pos t) = Some t
+landing (negsuc t) = None
+
 -- 36: a jump to no instruction start
 unfoldable pub is_start : List ℕ → ℤ → Bool
 is_start b (pos t) = both (ltb t (slots b)) (start b t)
 is_start b (negsuc t) = false
 
 -- the first rule that does not hold
-unfoldable pub first_broken : Bool → Bool → Bool → Bool → Bool → Shape
+unfoldable pub first_broken : Bool → Bool → Bool → Bool → Bool → Result ⊤ Shape
 first_broken known registers unused access target =
-    pick known (pick registers (pick unused (pick access (pick target S.Fine S.Target) S.Access) S.Unused) S.Register) S.Unknown
+    pick known (pick registers (pick unused (pick access (pick target (Ok tt) (Err S.Target)) (Err S.Access)) (Err S.Unused)) (Err S.Register)) (Err S.Unknown)
 
 -- the fault of the instruction i at a slot
-unfoldable pub shape_of : List ℕ → ℕ → Insn → Uses → Shape
+unfoldable pub shape_of : List ℕ → ℕ → Insn → Uses → Result ⊤ Shape
 shape_of b s i u =
     first_broken (known b s u.kind) (registers_ok i u) (unused_zero i u) (access_ok i u.kind) (implies u.jumps (is_start b (target s i.off)))
 
-unfoldable pub shape_at : List ℕ → ℕ → Shape
+unfoldable pub shape_at : List ℕ → ℕ → Result ⊤ Shape
 shape_at b s = shape_of b s (at b s) (uses (form_at b s))

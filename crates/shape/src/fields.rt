@@ -5,77 +5,97 @@ ghost use Rattle.shape.specs.Fields.{uses};
 
 use insn::form::{Form, Size};
 
-pub(crate) fn uses_dst(f: Form) -> bool
-    ensures { result ≡ (uses f).dst }
-{
-    match f {
-        Form::Ja | Form::Call | Form::Exit => false,
-        _ => true,
-    }
+// Which fields are used, whether the destination is written, and whether it jumps.
+#[derive(Drop)]
+pub(crate) struct Used {
+    pub(crate) dst: bool,
+    pub(crate) src: bool,
+    pub(crate) off: bool,
+    pub(crate) imm: bool,
+    pub(crate) writes: bool,
+    pub(crate) jumps: bool,
 }
 
-pub(crate) fn uses_src(f: Form) -> bool
-    ensures { result ≡ (uses f).src }
-{
-    match f {
-        Form::NoForm
-        | Form::WideLoad
-        | Form::Ldx(_)
-        | Form::Stx(_)
-        | Form::AluReg(_)
-        | Form::MovReg => true,
-        _ => false,
-    }
-}
+const NOTHING: Used = Used {
+    dst: false,
+    src: false,
+    off: false,
+    imm: false,
+    writes: false,
+    jumps: false,
+};
 
-pub(crate) fn uses_off(f: Form) -> bool
-    ensures { result ≡ (uses f).off }
+#[tactic(auto, unfolding(crate::specs::Fields::uses))]
+pub(crate) fn uses(f: Form) -> Used
+    ensures dst { result.dst ≡ (uses f).dst }
+    ensures src { result.src ≡ (uses f).src }
+    ensures off { result.off ≡ (uses f).off }
+    ensures imm { result.imm ≡ (uses f).imm }
+    ensures writes { result.writes ≡ (uses f).writes }
+    ensures jumps { result.jumps ≡ (uses f).jumps }
 {
     match f {
-        Form::NoForm | Form::Ldx(_) | Form::Stx(_) | Form::Ja | Form::JeqImm | Form::JneImm => true,
-        _ => false,
-    }
-}
-
-pub(crate) fn uses_imm(f: Form) -> bool
-    ensures { result ≡ (uses f).imm }
-{
-    match f {
-        Form::NoForm
-        | Form::WideLoad
-        | Form::AluImm(_)
-        | Form::MovImm
-        | Form::JeqImm
-        | Form::JneImm
-        | Form::Call => true,
-        _ => false,
-    }
-}
-
-pub(crate) fn writes(f: Form) -> bool
-    ensures { result ≡ (uses f).writes }
-{
-    match f {
-        Form::WideLoad
-        | Form::Ldx(_)
-        | Form::AluImm(_)
-        | Form::AluReg(_)
-        | Form::MovImm
-        | Form::MovReg => true,
-        _ => false,
-    }
-}
-
-pub(crate) fn jumps(f: Form) -> bool
-    ensures { result ≡ (uses f).jumps }
-{
-    match f {
-        Form::Ja | Form::JeqImm | Form::JneImm => true,
-        _ => false,
+        Form::NoForm => Used {
+            dst: true,
+            src: true,
+            off: true,
+            imm: true,
+            ..NOTHING
+        },
+        Form::WideLoad => Used {
+            dst: true,
+            src: true,
+            imm: true,
+            writes: true,
+            ..NOTHING
+        },
+        Form::Ldx(_) => Used {
+            dst: true,
+            src: true,
+            off: true,
+            writes: true,
+            ..NOTHING
+        },
+        Form::Stx(_) => Used {
+            dst: true,
+            src: true,
+            off: true,
+            ..NOTHING
+        },
+        Form::AluImm(_) | Form::MovImm => Used {
+            dst: true,
+            imm: true,
+            writes: true,
+            ..NOTHING
+        },
+        Form::AluReg(_) | Form::MovReg => Used {
+            dst: true,
+            src: true,
+            writes: true,
+            ..NOTHING
+        },
+        Form::Ja => Used {
+            off: true,
+            jumps: true,
+            ..NOTHING
+        },
+        Form::JeqImm | Form::JneImm => Used {
+            dst: true,
+            off: true,
+            imm: true,
+            jumps: true,
+            ..NOTHING
+        },
+        Form::Call => Used {
+            imm: true,
+            ..NOTHING
+        },
+        Form::Exit => NOTHING,
     }
 }
 
 // The bytes of a load or store.
+#[tactic(auto, unfolding(insn::specs::Rfc::width))]
 pub(crate) fn bytes_of(s: Size) -> u16
     ensures { (result ≡ width s) × (0 < result) }
 {

@@ -7,13 +7,14 @@ mod pairs;
 mod set;
 pub mod slot;
 
-ghost use Rattle.std.specs.Prelude.{◌≡◌, true, replicate};
+ghost use Rattle.std.specs.Prelude.{◌≡◌};
 ghost use Rattle.shape.specs.Shapes.{length_ok, shapes, and_relocations, judged};
+
+use set::StartSet;
 
 // The rule that an instruction breaks: 32 to 36.
 #[derive(Drop)]
 pub enum Shape {
-    Fine,
     Unknown,
     Register,
     Unused,
@@ -21,59 +22,46 @@ pub enum Shape {
     Target,
 }
 
-// Whether the relocations are exact, or the first index where they are not.
-#[derive(Drop)]
-pub enum Relocations {
-    Exact,
-    Differs(usize),
-}
-
 // The first fault of a code and its relocations.
 #[derive(Drop)]
 pub enum Shapes {
-    Fine,
     BadLength,
     Faulty(usize, Shape),
     Relocation(usize),
 }
 
 // A length that a code may have.
+#[tactic(auto, unfolding(crate::specs::Shapes::length_ok))]
 pub fn length_ok(code: &[u8]) -> bool
     ensures { result ≡ length_ok code.now }
 {
     let n = code.len();
-    if n == 0 {
-        return false;
-    }
-    if n % 8 == 0 {
-        return n <= 1048576;
-    }
-    false
+    n != 0 && n % 8 == 0 && n <= 1048576
 }
 
-fn judge_with(code: &[u8], relocs: &[u32], set: &mut [u64; 2048]) -> Shapes
-    requires code_value { length_ok code.now ≡ true }
-    requires set_value { set.old ≡ replicate 2048 0 }
-    ensures { result ≡ and_relocations code.now relocs.now (shapes code.now) }
+#[tactic(auto, unfolding(crate::specs::Shapes::and_relocations, crate::specs::Shapes::with_relocations))]
+fn judge_with(starts: &StartSet, relocs: &[u32]) -> Result<(), Shapes>
+    ensures { result ≡ and_relocations starts.now.code.now relocs.now (shapes starts.now.code.now) }
 {
-    set::fill(code, set);
-    let first = instruction::first_fault(code, set);
-    let Shapes::Fine = first else {
-        return first;
-    };
-    let r = pairs::compared(code, relocs);
-    match r {
-        Relocations::Exact => Shapes::Fine,
-        Relocations::Differs(k) => Shapes::Relocation(k),
+    instruction::first_fault(starts)?;
+    match pairs::compared(starts.code, relocs) {
+        Ok(()) => Ok(()),
+        Err(k) => Err(Shapes::Relocation(k)),
     }
 }
 
-pub fn judge(code: &[u8], relocs: &[u32]) -> Shapes
+#[tactic(auto, using(crate::proofs::Lengths::length_slots), unfolding(crate::specs::Shapes::judged))]
+pub fn judge(code: &[u8], relocs: &[u32]) -> Result<(), Shapes>
     ensures { result ≡ judged code.now relocs.now }
 {
     if length_ok(code) {
-        let mut set = [0u64; 2048];
-        return judge_with(code, relocs, &mut set);
+        let mut words = [0; 2048];
+        set::fill(code, &mut words);
+        let starts = StartSet {
+            code,
+            words: &words,
+        };
+        return judge_with(&starts, relocs);
     }
-    Shapes::BadLength
+    Err(Shapes::BadLength)
 }

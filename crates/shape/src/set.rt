@@ -1,55 +1,55 @@
 // Where the code's instructions start: a set of slots, a bit for each.
-ghost use Rattle.std.specs.Prelude.{◌≡◌, ◌+◌, ◌≤◌, ◌<◌, ◌^◌, replicate};
-ghost use Rattle.shape.specs.Code.{slots};
-ghost use Rattle.shape.specs.Set.{member, with, after, Starts};
+ghost use Rattle.std.specs.Prelude.{◌≡◌, ◌+◌, ◌≤◌, ◌<◌, ltb, replicate};
+ghost use Rattle.wire.specs.Pick.{both};
+ghost use Rattle.shape.specs.Code.{slots, start};
+ghost use Rattle.shape.specs.Set.{after, Starts};
 
 use crate::slot::is_wide;
 use wire::number::SlotNumber;
 
-fn one(k: usize) -> u64
-    requires { k < 64 }
-    ensures { result ≡ 2 ^ k }
-{
-    1u64 << k
+// A code, and the set of the slots where its instructions start.
+#[derive(Drop)]
+pub(crate) struct StartSet<'a> {
+    pub(crate) code: &'a [u8],
+    pub(crate) words: &'a [u64; 2048],
+    ghost few: { slots code.now ≤ 131072 },
+    ghost exact: { Starts code.now words.now },
 }
 
-fn insert(set: &mut [u64; 2048], u: usize)
-    requires { u < 131072 }
-    ensures { set.new ≡ with set.old u }
-{
-    let j = u / 64;
-    set[j] = set[j] | one(u % 64);
-}
-
-pub(crate) fn contains(set: &[u64; 2048], u: usize) -> bool
-    requires { u < 131072 }
-    ensures { result ≡ member set.now u }
-{
-    let word = set[u / 64];
-    (word >> (u % 64)) % 2 == 1
+impl<'a> StartSet<'a> {
+    #[tactic(auto, unfolding(crate::specs::Code::slots, crate::specs::Set::member, wire::specs::Bit::bit))]
+    pub(crate) fn contains(&self, slot: usize) -> bool
+        ensures { result ≡ both (ltb slot (slots self.now.code.now)) (start self.now.code.now slot) }
+    {
+        slot < self.code.len() / 8 && (self.words[slot / 64] >> (slot % 64)) % 2 == 1
+    }
 }
 
 // The start after the start s.
+#[tactic(auto, unfolding(crate::specs::Set::after))]
 pub(crate) fn next(code: &[u8], s: usize) -> usize
     requires { s < 131072 }
     ensures { result ≡ after code.now s }
 {
     if is_wide(code, SlotNumber(s as u32)) {
-        return s + 2;
+        s + 2
+    } else {
+        s + 1
     }
-    s + 1
 }
 
 // Puts each start into the empty set.
-pub(crate) fn fill(code: &[u8], set: &mut [u64; 2048])
+#[tactic(auto, using(crate::proofs::Starts::after_more), unfolding(crate::specs::Code::slots))]
+pub(crate) fn fill(code: &[u8], words: &mut [u64; 2048])
     requires code_bound { slots code.now ≤ 131072 }
-    requires set_value { set.old ≡ replicate 2048 0 }
-    ensures { Starts code.now set.new }
+    requires words_value { words.old ≡ replicate 2048 0 }
+    ensures { Starts code.now words.new }
 {
     let n = code.len() / 8;
     let mut s = 0;
+    // no `for`: a step is as long as the instruction
     while s < n {
-        insert(set, s);
+        words[s / 64] |= 1 << (s % 64);
         s = next(code, s);
     }
 }

@@ -2,7 +2,6 @@
 ghost use Rattle.shurtenbo.specs.Code.{Screen};
 
 use crate::answer;
-use screen::Verdict;
 
 #[unsafe(no_mangle)]
 pub extern "C" fn shurtenbo_screen(
@@ -14,7 +13,7 @@ pub extern "C" fn shurtenbo_screen(
     ensures { Screen code.now relocs.now table.old table.new answer.new }
 {
     match screen::screen(code, relocs, table) {
-        Verdict::Yes => answer::done(answer, 0, 0),
-        Verdict::Refused(f) => answer::refused(answer, screen::refusal(f)),
+        Ok(()) => answer::done(answer, 0, 0),
+        Err(f) => answer::refused(answer, screen::refusal(f)),
     }
 }

@@ -4,7 +4,7 @@ ghost use Rattle.insn.specs.Layout.{decoded, encoded_answer, encoded_bytes};
 ghost use Rattle.shurtenbo.specs.Insns.{insn_of, insn_fields, decoded_numbers, decoded_fields, encoded_numbers};
 
 use crate::answer;
-use insn::{Decoded, Encoded, Insn};
+use insn::{Fault, Insn};
 
 // The answer where the bytes are not eight.
 const NOT_EIGHT: u64 = 1001;
@@ -28,11 +28,11 @@ pub extern "C" fn shurtenbo_decode(bytes: &[u8], fields: &mut [i64; 5], answer: 
     ensures fields_after { fields.new ≡ decoded_fields (decoded bytes.now) fields.old }
 {
     match insn::decode(bytes) {
-        Decoded::Is(i) => {
+        Ok(i) => {
             put_fields(fields, i);
             answer::done(answer, 0, 0)
         }
-        Decoded::NotEight => answer::only(answer, NOT_EIGHT),
+        Err(Fault::NotEight) => answer::only(answer, NOT_EIGHT),
     }
 }
 
@@ -57,7 +57,7 @@ pub extern "C" fn shurtenbo_encode(
         imm,
     };
     match insn::encode(i, bytes) {
-        Encoded::Done => answer::done(answer, 0, 0),
-        Encoded::NotEight => answer::only(answer, NOT_EIGHT),
+        Ok(()) => answer::done(answer, 0, 0),
+        Err(Fault::NotEight) => answer::only(answer, NOT_EIGHT),
     }
 }

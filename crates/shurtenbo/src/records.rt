@@ -5,11 +5,10 @@ ghost use Rattle.recordfields.specs.Meant.{record_from};
 ghost use Rattle.shurtenbo.specs.Records.{due_of, read_numbers, read_fields, written_numbers, write_answer, write_buffer};
 
 use crate::answer;
-use record::payload::Payload;
-use record::{Due, Read};
+use record::{Due, Record};
 use recordfields::meant::record_from;
 use recordfields::numbers::fields_of;
-use recordwriter::{Fault, Written};
+use recordwriter::Fault;
 
 fn due_of(due: u8) -> Due
     ensures { result ≡ due_of due }
@@ -36,20 +35,20 @@ pub extern "C" fn shurtenbo_read_record(
     ensures fields_after { fields.new ≡ read_fields (read_record unit.now at (due_of due) maps) fields.old }
 {
     match record::read_record(unit, at, due_of(due), maps) {
-        Read::Record(value, next) => {
+        Ok((value, next)) => {
             *fields = fields_of(value);
             answer::done(answer, next as u64, 0)
         }
-        Read::Refused(f) => answer::refused(answer, record::refusal(f)),
+        Err(f) => answer::refused(answer, record::refusal(f)),
     }
 }
 
-fn tell_written(answer: &mut [u64; 3], w: Written)
+fn tell_written(answer: &mut [u64; 3], w: Result<usize, Fault>)
     ensures { answer.new ≡ written_numbers w }
 {
     match w {
-        Written::Bytes(n) => answer::done(answer, n as u64, 0),
-        Written::Refused(f) => answer::refused(answer, recordwriter::refusal(f)),
+        Ok(n) => answer::done(answer, n as u64, 0),
+        Err(f) => answer::refused(answer, recordwriter::refusal(f)),
     }
 }
 
@@ -66,10 +65,10 @@ pub extern "C" fn shurtenbo_write_record(
     ensures buffer_after { buffer.new ≡ write_buffer (record_from maps fields.now) names.now maps buffer.old }
 {
     match record_from(fields, maps) {
-        Payload::Is(value) => tell_written(
+        Some(value) => tell_written(
             answer,
             recordwriter::write_record(value, names, maps, buffer),
         ),
-        Payload::Broken => tell_written(answer, Written::Refused(Fault::Broken)),
+        None => tell_written(answer, Err(Fault::Broken)),
     }
 }

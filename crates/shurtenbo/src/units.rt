@@ -6,8 +6,6 @@ ghost use Rattle.tracepoint.specs.Compile.{compile_answer, compile_code, compile
 ghost use Rattle.shurtenbo.specs.Units.{unit_numbers, place_numbers, compiled_numbers};
 
 use crate::answer;
-use tracepoint::Compiled;
-use unitfile::{MapPlace, ReadUnit};
 
 // The answer where a unit has no map of the number asked for.
 const NO_SUCH_MAP: u64 = 1000;
@@ -18,8 +16,8 @@ pub extern "C" fn shurtenbo_read_unit(unit: &[u8], answer: &mut [u64; 3])
     ensures { answer.new ≡ unit_numbers (parse unit.now) }
 {
     match unitfile::read_unit(unit) {
-        ReadUnit::Unit(found) => answer::done(answer, found.maps as u64, found.blocks as u64),
-        ReadUnit::Refused(f) => answer::refused(answer, record::refusal(f)),
+        Ok(found) => answer::done(answer, found.maps as u64, found.blocks as u64),
+        Err(f) => answer::refused(answer, record::refusal(f)),
     }
 }
 
@@ -29,9 +27,9 @@ pub extern "C" fn shurtenbo_map_name(unit: &[u8], map: u32, answer: &mut [u64; 3
     ensures { answer.new ≡ place_numbers (place_of unit.now (parse unit.now) map) }
 {
     match unitfile::map_place(unit, map) {
-        MapPlace::At { start, len } => answer::done(answer, start as u64, len as u64),
-        MapPlace::NoSuchMap => answer::only(answer, NO_SUCH_MAP),
-        MapPlace::Refused(f) => answer::refused(answer, record::refusal(f)),
+        Ok(Some((start, len))) => answer::done(answer, start as u64, len as u64),
+        Ok(None) => answer::only(answer, NO_SUCH_MAP),
+        Err(f) => answer::refused(answer, record::refusal(f)),
     }
 }
 
@@ -48,7 +46,7 @@ pub extern "C" fn shurtenbo_compile(
     ensures relocs_after { relocs.new ≡ compile_relocs unit.now (length code.old) relocs.old }
 {
     match tracepoint::compile_tracepoint(unit, code, relocs) {
-        Compiled::Done(slots, pairs) => answer::done(answer, slots as u64, pairs as u64),
-        Compiled::Refused(f) => answer::refused(answer, tracepoint::refusal(f)),
+        Ok((slots, pairs)) => answer::done(answer, slots as u64, pairs as u64),
+        Err(f) => answer::refused(answer, tracepoint::refusal(f)),
     }
 }

@@ -17,7 +17,6 @@ use Rattle.opcode.specs.Opcode.{opcode_in}
 use Rattle.record.specs.Instruction.{fields_in}
 use Rattle.insn.specs.declared.form.Form.{Form}
 use Rattle.frame.specs.Cell.{Frame}
-use Rattle.frame.specs.declared.Cell.TheVariants.{At}
 use Rattle.lower.specs.Op.{Lowered, insn, slots_of, ◌▸◌}
 use Rattle.lower.specs.Operand.{move, add, on_cell, load, addr, keep}
 use Rattle.lower.specs.Instruction.{on_first, on_two, on_three, on_none, operate, from_context, helper_call, opcode}

@@ -26,27 +26,24 @@ use Rattle.lower.specs.Operand.{call, load, keep}
 use Rattle.lower.specs.Instruction.{on_first, on_two, on_three, on_none, from_context, helper_call, opcode}
 use Rattle.lower.specs.Payload.{operands_of}
 use Rattle.lower.specs.Held.{held}
-use Rattle.lower.specs.Step.{first_of}
 use Rattle.lower.specs.declared.Reason.TheVariants as Re
-use Rattle.lower.specs.declared.Outcome.{Outcome}
-use Rattle.lower.specs.declared.Outcome.TheVariants.{Fine}
-use Rattle.lower.specs.declared.MapUse.{MapUse}
-use Rattle.lower.specs.declared.MapUse.TheVariants as M
 use Rattle.lower.proofs.Counts.{first_is, no_first, two_are, not_two, three_are, not_three, none_are, some_are}
 use Rattle.size.specs.Size.{every_cell, size_by}
-use Rattle.size.specs.Part.{takes, of_constant, of_operand, address_slots, operate_slots, of_first, of_none, of_three}
+use Rattle.size.specs.Part.{first_of, takes, of_constant, of_operand, address_slots, operate_slots, of_first, of_none, of_three}
 use Rattle.size.proofs.Takes.{Takes, ◌▹◌, ◌▹fine◌, one, constant_takes, zero_takes, load_takes, keep_takes, call_takes, move_takes, add_takes, map_takes, addr_takes, operate_takes, null_takes, of_size, store_takes, of_offset, context_takes}
+use Rattle.lower.specs.declared.Reason.{Reason}
+use Rattle.std.specs.Prelude.{Err, None, Ok, Option, Result, Some, ⊤}
 
 -- the slots of x, added up
-resized : {x : Lowered} {o : Outcome} {m : MapUse} {n k : ℕ} → Takes x o m n → n ≡ k → held x ≡ takes o m k
+resized : {x : Lowered} {o : Result ⊤ Reason} {m : Option ℕ} {n k : ℕ} → Takes x o m n → n ≡ k → held x ≡ takes o m k
 resized {x} {o} {m} t e = t.told ∙ ap (takes o m) e
 
 module _ (p : List ℕ) where
   -- ---- the count of operands
 
   module _ (f : Operand → Lowered) (n : ℕ) (e : n ≡ byte_at p 6) where
-    pub no_first_refused : n ≡ 0 → held (refused (Re.Count 0)) ≡ held (on_first (operands_of p) f)
-    unfolding operands_of
+    pub no_first_refused : n ≡ 0 → Err (Re.Count 0) ≡ held (on_first (operands_of p) f)
+    unfolding operands_of held
     no_first_refused h = ap held (no_first p 16 (byte_at p 6) f (sym e ∙ h))
 
     pub first_held : (n ≡ 0 → ⊥) → held (on_first (operands_of p) f) ≡ held (f (operand_in p 16))
@@ -54,8 +51,8 @@ module _ (p : List ℕ) where
     first_held h = ap held (sym (first_is p 16 (byte_at p 6) f refl (λ (z : byte_at p 6 ≡ 0). h (e ∙ z))))
 
   module _ (f : Operand → Operand → Lowered) (n : ℕ) (e : n ≡ byte_at p 6) where
-    pub not_two_refused : (n ≡ 2 → ⊥) → held (refused (Re.Count n)) ≡ held (on_two (operands_of p) f)
-    unfolding operands_of
+    pub not_two_refused : (n ≡ 2 → ⊥) → Err (Re.Count n) ≡ held (on_two (operands_of p) f)
+    unfolding operands_of held
     not_two_refused h =
         ap (λ (k : ℕ). held (refused (Re.Count k))) e ∙ ap held (not_two p 16 (byte_at p 6) f (λ (z : byte_at p 6 ≡ 2). h (e ∙ z)))
 
@@ -63,25 +60,13 @@ module _ (p : List ℕ) where
     unfolding operands_of
     two_held h = ap held (sym (two_are p 16 (byte_at p 6) f refl refl (sym e ∙ h)))
 
-  -- two operands judged, one after the other
-  pub judged_two : {a b : Operand} {o q : Outcome} → a ≡ operand_in p 16 → b ≡ operand_in p 25 → o ≡ first_of Fine (of_operand a) → q ≡ first_of o (of_operand b)
-      → q ≡ first_of (of_operand (operand_in p 16)) (of_operand (operand_in p 25))
-  unfolding first_of
-  judged_two d e f g = g ∙ rw (f, d, e)
-
-  -- an operand and a size judged, one after the other
-  pub judged_size : {a : Operand} {z : ℤ} {n : ℕ} {o q : Outcome} → a ≡ operand_in p 16 → o ≡ first_of Fine (of_operand a) → q ≡ first_of o (of_operand (Immediate z)) → z ≡ pos n
-      → q ≡ first_of (of_operand (operand_in p 16)) (of_constant (pos n))
-  unfolding first_of of_operand
-  judged_size d e f g = f ∙ rw (e, d, g)
-
   -- ---- the first operand alone
 
-  by_first : (f : Operand → Lowered) (k : ℕ) → ((a : Operand) → Takes (f a) (of_operand a) M.Nothing k) → of_first p k ≡ held (on_first (operands_of p) f)
-  unfolding of_first operands_of
+  by_first : (f : Operand → Lowered) (k : ℕ) → ((a : Operand) → Takes (f a) (of_operand a) None k) → of_first p k ≡ held (on_first (operands_of p) f)
+  unfolding of_first operands_of held
   by_first f k h = go (eqb (byte_at p 6) 0) refl
     where
-      go : (t : Bool) → eqb (byte_at p 6) 0 ≡ t → pick t (held (refused (Re.Count 0))) (takes (of_operand (operand_in p 16)) M.Nothing k) ≡ held (on_first (operands_in p 16 (byte_at p 6)) f)
+      go : (t : Bool) → eqb (byte_at p 6) 0 ≡ t → pick t (Err (Re.Count 0)) (takes (of_operand (operand_in p 16)) None k) ≡ held (on_first (operands_in p 16 (byte_at p 6)) f)
       go true e = ap held (no_first p 16 (byte_at p 6) f (eqb-true (byte_at p 6) 0 e))
       go false e = sym (ap held (sym (first_is p 16 (byte_at p 6) f refl (eqb-false (byte_at p 6) 0 e))) ∙ (h (operand_in p 16)).told)
 
@@ -101,20 +86,20 @@ module _ (p : List ℕ) where
   -- ---- helpers
 
   by_none : (id result : ℕ) → of_none p ≡ held (on_none (operands_of p) (call id ▸ keep every_cell result))
-  unfolding of_none operands_of
+  unfolding of_none operands_of held
   by_none id result = go (eqb (byte_at p 6) 0) refl
     where
       go : (t : Bool) → eqb (byte_at p 6) 0 ≡ t
-          → pick t (takes Fine M.Nothing 2) (held (refused (Re.Count (byte_at p 6)))) ≡ held (on_none (operands_in p 16 (byte_at p 6)) (call id ▸ keep every_cell result))
+          → pick t (takes (Ok tt) None 2) (Err (Re.Count (byte_at p 6))) ≡ held (on_none (operands_in p 16 (byte_at p 6)) (call id ▸ keep every_cell result))
       go true e = sym (ap held (sym (none_are p 16 (byte_at p 6) _ (eqb-true (byte_at p 6) 0 e))) ∙ (call_takes id ▹fine keep_takes result).told)
       go false e = ap held (some_are p 16 (byte_at p 6) _ (eqb-false (byte_at p 6) 0 e))
 
   by_three : (id result : ℕ) → of_three p ≡ held (on_three (operands_of p) (λ a b c. load every_cell 1 a ▸ load every_cell 2 b ▸ load every_cell 3 c ▸ call id ▸ keep every_cell result))
-  unfolding of_three operands_of
+  unfolding of_three operands_of held
   by_three id result = go (eqb (byte_at p 6) 3) refl
     where
       go : (t : Bool) → eqb (byte_at p 6) 3 ≡ t
-          → pick t (takes (first_of (first_of (of_operand (operand_in p 16)) (of_operand (operand_in p 25))) (of_operand (operand_in p 34))) M.Nothing 5) (held (refused (Re.Count (byte_at p 6))))
+          → pick t (takes (first_of (first_of (of_operand (operand_in p 16)) (of_operand (operand_in p 25))) (of_operand (operand_in p 34))) None 5) (Err (Re.Count (byte_at p 6)))
           ≡ held (on_three (operands_in p 16 (byte_at p 6)) (λ a b c. load every_cell 1 a ▸ load every_cell 2 b ▸ load every_cell 3 c ▸ call id ▸ keep every_cell result))
       go true e = sym (ap held (sym (three_are p 16 (byte_at p 6) _ refl refl refl (eqb-true (byte_at p 6) 3 e))) ∙ (load_takes 1 _ ▹ load_takes 2 _ ▹ load_takes 3 _ ▹fine call_takes id ▹fine keep_takes result).told)
       go false e = ap held (not_three p 16 (byte_at p 6) _ (eqb-false (byte_at p 6) 3 e))
@@ -129,20 +114,20 @@ module _ (p : List ℕ) where
     helper_three (inl e) = rw e (by_three 114 (unsigned_at w32 p 0))
     helper_three (inr e) = rw e (by_three 115 (unsigned_at w32 p 0))
 
-    pub helper_16 : id ≡ 16 → held (refused Re.Helper16) ≡ size_by false (C.HelperCall id) p
-    unfolding size_by opcode helper_call
+    pub helper_16 : id ≡ 16 → Err Re.Helper16 ≡ size_by false (C.HelperCall id) p
+    unfolding size_by opcode helper_call held
     helper_16 e = rw e refl
 
     pub helper_other : (id ≡ 5 → ⊥) → (id ≡ 14 → ⊥) → (id ≡ 15 → ⊥) → (id ≡ 35 → ⊥) → (id ≡ 16 → ⊥) → (id ≡ 114 → ⊥) → (id ≡ 115 → ⊥)
-        → held (refused (Re.Helper id)) ≡ size_by false (C.HelperCall id) p
-    unfolding size_by opcode helper_call
+        → Err (Re.Helper id) ≡ size_by false (C.HelperCall id) p
+    unfolding size_by opcode helper_call held
     helper_other a b c d e f g = rw (ne_eqb id 5 a, ne_eqb id 14 b, ne_eqb id 15 c, ne_eqb id 35 d, ne_eqb id 16 e, ne_eqb id 114 f, ne_eqb id 115 g) refl
 
   -- ---- alu
 
   module _ (n : ℕ) (e : n ≡ byte_at p 6) (h : n ≡ 2) where
     pub binary : (op : BinaryOp)
-        → takes (first_of (of_operand (operand_in p 16)) (of_operand (operand_in p 25))) M.Nothing (2 + operate_slots (operand_in p 25)) ≡ size_by false (C.Binary op) p
+        → takes (first_of (of_operand (operand_in p 16)) (of_operand (operand_in p 25))) None (2 + operate_slots (operand_in p 25)) ≡ size_by false (C.Binary op) p
     unfolding size_by opcode
     binary op =
         let t = load_takes 0 (operand_in p 16) ▹ operate_takes op (operand_in p 25) ▹fine keep_takes (unsigned_at w32 p 0) in
@@ -151,7 +136,7 @@ module _ (p : List ℕ) where
     -- ---- memory
 
     pub store : (size : ℕ)
-        → takes (first_of (first_of (of_operand (operand_in p 16)) (of_operand (operand_in p 25))) (of_size (mem_code STX size) (Re.StoreSize size))) M.Nothing 3 ≡ size_by false (C.Store size) p
+        → takes (first_of (first_of (of_operand (operand_in p 16)) (of_operand (operand_in p 25))) (of_size (mem_code STX size) (Re.StoreSize size))) None 3 ≡ size_by false (C.Store size) p
     unfolding size_by opcode
     store size =
         let t = load_takes 1 (operand_in p 16) ▹ load_takes 2 (operand_in p 25) ▹ store_takes (mem_code STX size) (Re.StoreSize size) in
@@ -160,29 +145,29 @@ module _ (p : List ℕ) where
     -- ---- maps
 
     pub update_map : (m : ℕ)
-        → takes (first_of (of_operand (operand_in p 16)) (of_operand (operand_in p 25))) (M.Map m) (5 + address_slots (operand_in p 16) + address_slots (operand_in p 25)) ≡ size_by false (C.UpdateMap m) p
+        → takes (first_of (of_operand (operand_in p 16)) (of_operand (operand_in p 25))) (Some m) (5 + address_slots (operand_in p 16) + address_slots (operand_in p 25)) ≡ size_by false (C.UpdateMap m) p
     unfolding size_by opcode first_of
     update_map m =
         let t = map_takes m ▹ addr_takes _ 2 (operand_in p 16) ▹ addr_takes _ 3 (operand_in p 25) ▹fine zero_takes 4 ▹fine call_takes 2 ▹fine keep_takes (unsigned_at w32 p 0) in
         sym (two_held _ n e h ∙ resized t (omega arith))
 
-  pub from_context_lem : (offset : ℤ) (size : ℕ) → takes (of_offset offset (mem_code LDX size) (Re.LoadSize size)) M.Nothing 2 ≡ size_by false (C.LoadCtx offset size) p
+  pub from_context_lem : (offset : ℤ) (size : ℕ) → takes (of_offset offset (mem_code LDX size) (Re.LoadSize size)) None 2 ≡ size_by false (C.LoadCtx offset size) p
   unfolding size_by opcode from_context
   from_context_lem offset size = sym (context_takes offset (mem_code LDX size) (Re.LoadSize size) ▹fine keep_takes (unsigned_at w32 p 0)).told
 
-  pub reserve : (m size : ℕ) → takes (of_constant (pos size)) (M.Map m) 6 ≡ size_by false (C.RingBufReserve m size) p
+  pub reserve : (m size : ℕ) → takes (of_constant (pos size)) (Some m) 6 ≡ size_by false (C.RingBufReserve m size) p
   unfolding size_by opcode first_of
   reserve m size = sym (map_takes m ▹ constant_takes 2 (pos size) ▹fine zero_takes 3 ▹fine call_takes 131 ▹fine keep_takes (unsigned_at w32 p 0)).told
 
   module _ (n : ℕ) (e : n ≡ byte_at p 6) (h : n ≡ 0 → ⊥) where
     pub copy_context : (offset : ℤ) (size : ℕ)
-        → takes (first_of (of_operand (operand_in p 16)) (of_constant (pos size))) M.Nothing 6 ≡ size_by false (C.CopyCtxToMem offset size) p
+        → takes (first_of (of_operand (operand_in p 16)) (of_constant (pos size))) None 6 ≡ size_by false (C.CopyCtxToMem offset size) p
     unfolding size_by opcode
     copy_context offset size =
         let t = load_takes 1 (operand_in p 16) ▹ constant_takes 2 (pos size) ▹fine move_takes 3 6 ▹fine add_takes 3 offset ▹fine call_takes 113 ▹fine keep_takes (unsigned_at w32 p 0) in
         sym (first_held _ n e h ∙ t.told)
 
-    pub call_map : (m : ℕ) → takes (of_operand (operand_in p 16)) (M.Map m) (4 + address_slots (operand_in p 16)) ≡ size_by false (C.CallMap m) p
+    pub call_map : (m : ℕ) → takes (of_operand (operand_in p 16)) (Some m) (4 + address_slots (operand_in p 16)) ≡ size_by false (C.CallMap m) p
     unfolding size_by opcode first_of
     call_map m =
         let t = map_takes m ▹ addr_takes _ 2 (operand_in p 16) ▹fine call_takes 1 ▹fine keep_takes (unsigned_at w32 p 0) in

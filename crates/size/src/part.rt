@@ -1,49 +1,30 @@
 // The parts of an instruction: whether one is refused, and the slots that it takes.
 ghost use Rattle.std.specs.Prelude.{◌≡◌, ◌≤◌};
-ghost use Rattle.lower.specs.Step.{first_of};
-ghost use Rattle.size.specs.Part.{takes, of_constant, of_operand, address_slots, operate_slots};
+ghost use Rattle.size.specs.Part.{of_constant, of_operand, address_slots, operate_slots};
 
 use ir::Operand;
-use lower::{Emitted, MapUse, Outcome, Reason};
-
-// ---- the answer
-
-// A map and so many slots, where nothing was refused.
-pub fn takes(outcome: Outcome, map: MapUse, slots: u32) -> Emitted
-    ensures { result ≡ takes outcome map slots }
-{
-    match outcome {
-        Outcome::Fine => Emitted {
-            outcome: Outcome::Fine,
-            map,
-            slots,
-        },
-        Outcome::Refused(reason) => lower::refused(reason),
-    }
-}
+use lower::Reason;
 
 // ---- operands
 
 // A constant must lie in i32.
-pub fn constant(z: i64) -> Outcome
+pub fn constant(z: i64) -> Result<(), Reason>
     ensures { result ≡ of_constant z }
 {
     if wire::range::fits32(z) {
-        return Outcome::Fine;
+        return Ok(());
     }
-    Outcome::Refused(Reason::Immediate(z))
+    Err(Reason::Immediate(z))
 }
 
-// The first refusal of what came before and of an operand.
-pub fn judge(before: Outcome, a: Operand) -> Outcome
-    ensures { result ≡ first_of before (of_operand a) }
+// An operand that is a constant must lie in i32 too.
+#[tactic(auto, unfolding(crate::specs::Part::of_operand))]
+pub fn judge(a: Operand) -> Result<(), Reason>
+    ensures { result ≡ of_operand a }
 {
-    match before {
-        Outcome::Fine => match a {
-            Operand::Var(_) => Outcome::Fine,
-            Operand::Immediate(z) => constant(z),
-        },
-        Outcome::Refused(_) => before,
+    match a {
+        Operand::Var(_) => Ok(()),
+        Operand::Immediate(z) => constant(z),
     }
 }
 

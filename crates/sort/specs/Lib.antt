@@ -1,3 +1,1 @@
 pub mod Sorted
-pub mod Order
-pub mod Merge

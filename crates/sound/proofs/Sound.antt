@@ -3,7 +3,6 @@ use mathlib.Core.List.{List}
 use Prim.Native.Nat.{ℕ}
 use native.Mathlib.Omega.{arith}
 use Rattle.shape.specs.Code.{at}
-use Rattle.screen.specs.declared.Verdict.TheVariants.{Yes}
 use Rattle.screen.specs.Verdict.{Screened}
 use Rattle.screen.specs.Faultless.{NoFault}
 use Rattle.screen.proofs.Exact.{yes_says}
@@ -12,6 +11,7 @@ use Rattle.machine.specs.Turn.{Effect}
 use Rattle.machine.specs.Run.{Run}
 use Rattle.sound.specs.Safe.{Safe, Met, unreadable, past}
 use Rattle.sound.proofs.OnWay.{on_way, step_leads}
+use Rattle.std.specs.Prelude.{Ok}
 
 pub sound : (b l : List ℕ) → NoFault b l → {p : ℕ} {h : List Effect} {s : ℕ} {m : Memory} → Run p (at b) h s m → Safe p b h s m
 sound b l N {p} {h} {s} {m} r =
@@ -24,7 +24,7 @@ sound b l N {p} {h} {s} {m} r =
     }
 
 -- so for code to which the screen says yes, with any table
-pub screened : (b l t u : List ℕ) → Screened b l t Yes u → {p : ℕ} {h : List Effect} {s : ℕ} {m : Memory} → Run p (at b) h s m → Safe p b h s m
+pub screened : (b l t u : List ℕ) → Screened b l t (Ok tt) u → {p : ℕ} {h : List Effect} {s : ℕ} {m : Memory} → Run p (at b) h s m → Safe p b h s m
 screened b l t u y = sound b l (yes_says b l t u y).0
 
 -- no path fault is ever met

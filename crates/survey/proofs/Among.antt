@@ -15,12 +15,11 @@ use Rattle.ir.specs.declared.Operand.TheVariants as O
 use Rattle.ir.specs.declared.Terminator.TheVariants as T
 use Rattle.frame.specs.Cell.{offset_of, cell_from, frame_of}
 use Rattle.frame.specs.Variables.{insert}
-use Rattle.frame.specs.declared.Cell.{Cell}
-use Rattle.frame.specs.declared.Cell.TheVariants.{At, Missing}
 use Rattle.unitfile.specs.Unit.{PlacedInstruction, BasicBlock}
 use Rattle.opening.proofs.Choice.{pick_ind}
 use Rattle.survey.specs.Occurrences.{Occurrence, of_operand, of_operands, of_instruction, of_instructions, of_terminator, occurrences}
 use Rattle.survey.specs.Collected.{Collected, all, too_many, collect, collected}
+use Rattle.std.specs.Prelude.{None, Option, Some}
 
 -- ---- every variable that occurs is collected
 
@@ -125,9 +124,9 @@ module _ (bs : List BasicBlock) (vs : List ℕ) (e : collected bs ≡ all vs) wh
 
 -- ---- and what is among them has a cell
 
-pub record HasCell (c : Cell) : Type 0 where
+pub record HasCell (c : Option ℤ) : Type 0 where
   pub offset : ℤ
-  pub at : c ≡ At offset
+  pub at : c ≡ Some offset
 
 cell_from_lem : (i v : ℕ) (l : List ℕ) → Memᴰ v l → HasCell (cell_from i l v)
 unfolding cell_from
@@ -141,7 +140,7 @@ pub has_cell : (v : ℕ) (vs : List ℕ) → Memᴰ v vs → HasCell ((frame_of 
 unfolding frame_of
 has_cell v vs m = cell_from_lem 0 v vs m
 
-pub not_missing : (v : ℕ) (vs : List ℕ) → Memᴰ v vs → (frame_of vs).cell v ≡ Missing → ⊥
+pub not_missing : (v : ℕ) (vs : List ℕ) → Memᴰ v vs → (frame_of vs).cell v ≡ None → ⊥
 not_missing v vs m e =
     let f = has_cell v vs m in
     let q = sym f.at ∙ e in

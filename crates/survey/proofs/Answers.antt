@@ -7,21 +7,21 @@ use lib.ListN.{length}
 use Rattle.record.specs.declared.Fault.{Fault}
 use Rattle.unitfile.specs.Unit.{parse, read_unit}
 use Rattle.unitfile.specs.declared.Found.{Found}
-use Rattle.unitfile.specs.declared.ReadUnit.{ReadUnit}
-use Rattle.unitfile.specs.declared.ReadUnit.TheVariants as U
 use Rattle.unitfile.proofs.Whole.{refused_whole}
 use Rattle.survey.specs.Occurrences.{occurrences}
 use Rattle.survey.specs.Collected.{Collected, all, too_many, collect, collected}
 use Rattle.survey.specs.Surveyed.{ids, endings, blocks_of, variables_of, counted, answered, surveyed, surveyed_variables, surveyed_ids, surveyed_endings}
-use Rattle.survey.specs.declared.Survey.TheVariants as S
+use Rattle.std.specs.Prelude.{Err, Ok, Result}
+use Rattle.survey.specs.declared.Fault.TheVariants.{Reading, TooMany}
+use Rattle.wire.proofs.Pairs.{ok_parts}
 
 module _ (b : List ℕ) where
-  pub unit_answer : (found : Found) → read_unit b ≡ U.Unit found → counted found (collected (blocks_of (parse b))) ≡ surveyed b
+  pub unit_answer : (found : Found) → read_unit b ≡ Ok found → counted found (collected (blocks_of (parse b))) ≡ surveyed b
   unfolding surveyed answered
   unit_answer found e = rw e
 
-  module _ (f : Fault) (e : read_unit b ≡ U.Refused f) where
-    pub refused_answer : S.Refused f ≡ surveyed b
+  module _ (f : Fault) (e : read_unit b ≡ Err f) where
+    pub refused_answer : Err (Reading f) ≡ surveyed b
     unfolding surveyed answered
     refused_answer = rw e
 
@@ -40,51 +40,51 @@ module _ (b : List ℕ) where
 -- ---- the other way round
 
 pub record IsUnit (b : List ℕ) (found : Found) (n : ℕ) : Type 0 where
-  pub read : read_unit b ≡ U.Unit found
+  pub read : read_unit b ≡ Ok found
   pub variables : List ℕ
   pub collects : collected (blocks_of (parse b)) ≡ all variables
   pub count : length variables ≡ n
 
 pub record IsTooMany (b : List ℕ) (place : ℕ) : Type 0 where
   pub found : Found
-  pub read : read_unit b ≡ U.Unit found
+  pub read : read_unit b ≡ Ok found
   pub variables : List ℕ
   pub collects : collected (blocks_of (parse b)) ≡ too_many place variables
 
 module _ (b : List ℕ) where
-  unit_by : (x : ReadUnit) (c : Collected) → read_unit b ≡ x → collected (blocks_of (parse b)) ≡ c → (found : Found) (n : ℕ) → answered x c ≡ S.Unit found n → IsUnit b found n
+  unit_by : (x : Result Found Fault) (c : Collected) → read_unit b ≡ x → collected (blocks_of (parse b)) ≡ c → (found : Found) (n : ℕ) → answered x c ≡ Ok (found, n) → IsUnit b found n
   unfolding answered counted
-  unit_by (U.Unit g) (all vs) r k found n e =
-      let p : g ≡ found = cc in
-      let q : length vs ≡ n = cc in
-      record { read = r ∙ ap U.Unit p; variables = vs; collects = k; count = q }
-  unit_by (U.Unit g) (too_many place vs) r k found n e = let z : ◌≡◌ {A = ℕ} 0 1 = cc in absurd (omega arith)
-  unit_by (U.Refused f) c r k found n e = let z : ◌≡◌ {A = ℕ} 0 1 = cc in absurd (omega arith)
+  unit_by (Ok g) (all vs) r k found n e =
+      let p : g ≡ found = (ok_parts e).0 in
+      let q : length vs ≡ n = (ok_parts e).1 in
+      record { read = r ∙ ap Ok p; variables = vs; collects = k; count = q }
+  unit_by (Ok g) (too_many place vs) r k found n e = let z : ◌≡◌ {A = ℕ} 0 1 = cc in absurd (omega arith)
+  unit_by (Err f) c r k found n e = let z : ◌≡◌ {A = ℕ} 0 1 = cc in absurd (omega arith)
 
-  pub unit_means : (found : Found) (n : ℕ) → surveyed b ≡ S.Unit found n → IsUnit b found n
+  pub unit_means : (found : Found) (n : ℕ) → surveyed b ≡ Ok (found, n) → IsUnit b found n
   unfolding surveyed
   unit_means = unit_by (read_unit b) (collected (blocks_of (parse b))) refl refl
 
-  many_by : (x : ReadUnit) (c : Collected) → read_unit b ≡ x → collected (blocks_of (parse b)) ≡ c → (place : ℕ) → answered x c ≡ S.TooMany place → IsTooMany b place
+  many_by : (x : Result Found Fault) (c : Collected) → read_unit b ≡ x → collected (blocks_of (parse b)) ≡ c → (place : ℕ) → answered x c ≡ Err (TooMany place) → IsTooMany b place
   unfolding answered counted
-  many_by (U.Unit g) (all vs) r k place e = let z : ◌≡◌ {A = ℕ} 0 1 = cc in absurd (omega arith)
-  many_by (U.Unit g) (too_many at vs) r k place e =
+  many_by (Ok g) (all vs) r k place e = let z : ◌≡◌ {A = ℕ} 0 1 = cc in absurd (omega arith)
+  many_by (Ok g) (too_many at vs) r k place e =
       let p : at ≡ place = cc in
       record { found = g; read = r; variables = vs; collects = k ∙ ap (λ (x : ℕ). too_many x vs) p }
-  many_by (U.Refused f) c r k place e = let z : ◌≡◌ {A = ℕ} 0 1 = cc in absurd (omega arith)
+  many_by (Err f) c r k place e = let z : ◌≡◌ {A = ℕ} 0 1 = cc in absurd (omega arith)
 
-  pub too_many_means : (place : ℕ) → surveyed b ≡ S.TooMany place → IsTooMany b place
+  pub too_many_means : (place : ℕ) → surveyed b ≡ Err (TooMany place) → IsTooMany b place
   unfolding surveyed
   too_many_means = many_by (read_unit b) (collected (blocks_of (parse b))) refl refl
 
-  refused_by : (x : ReadUnit) (c : Collected) → read_unit b ≡ x → (f : Fault) → answered x c ≡ S.Refused f → read_unit b ≡ U.Refused f
+  refused_by : (x : Result Found Fault) (c : Collected) → read_unit b ≡ x → (f : Fault) → answered x c ≡ Err (Reading f) → read_unit b ≡ Err f
   unfolding answered counted
-  refused_by (U.Unit g) (all vs) r f e = let z : ◌≡◌ {A = ℕ} 0 1 = cc in absurd (omega arith)
-  refused_by (U.Unit g) (too_many at vs) r f e = let z : ◌≡◌ {A = ℕ} 0 1 = cc in absurd (omega arith)
-  refused_by (U.Refused g) c r f e =
+  refused_by (Ok g) (all vs) r f e = let z : ◌≡◌ {A = ℕ} 0 1 = cc in absurd (omega arith)
+  refused_by (Ok g) (too_many at vs) r f e = let z : ◌≡◌ {A = ℕ} 0 1 = cc in absurd (omega arith)
+  refused_by (Err g) c r f e =
       let p : g ≡ f = cc in
-      r ∙ ap U.Refused p
+      r ∙ ap Err p
 
-  pub refused_means : (f : Fault) → surveyed b ≡ S.Refused f → read_unit b ≡ U.Refused f
+  pub refused_means : (f : Fault) → surveyed b ≡ Err (Reading f) → read_unit b ≡ Err f
   unfolding surveyed
   refused_means = refused_by (read_unit b) (collected (blocks_of (parse b))) refl

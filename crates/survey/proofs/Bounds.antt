@@ -7,15 +7,15 @@ use lib.ListN.{length}
 use Rattle.unitfile.specs.Records.{records, at_block, records_from}
 use Rattle.unitfile.specs.Unit.{parse, read_unit}
 use Rattle.unitfile.specs.declared.Found.{Found}
-use Rattle.unitfile.specs.declared.ReadUnit.{ReadUnit}
-use Rattle.unitfile.specs.declared.ReadUnit.TheVariants as U
 use Rattle.unitfile.proofs.Blocks.{flat}
 use Rattle.unitfile.proofs.Units.{unit_of}
 use Rattle.unitfile.proofs.Whole.{refused_whole}
 use Rattle.survey.specs.Surveyed.{blocks_of}
+use Rattle.record.specs.declared.Fault.{Fault}
+use Rattle.std.specs.Prelude.{Err, Ok, Result}
 
 -- a unit that was read whole
-module _ (b : List ℕ) (found : Found) (e : read_unit b ≡ U.Unit found) where
+module _ (b : List ℕ) (found : Found) (e : read_unit b ≡ Ok found) where
   -- its blocks' records are those that were read
   pub blocks_flat : records_from b found.maps (at_block found.body found.blocks) ≡ records (flat (blocks_of (parse b)))
   unfolding blocks_of
@@ -26,10 +26,10 @@ module _ (b : List ℕ) (found : Found) (e : read_unit b ≡ U.Unit found) where
   blocks_count = let u = unit_of b found e in rw u.parsed_as u.blocks
 
 module _ (b : List ℕ) where
-  few_by : (x : ReadUnit) → read_unit b ≡ x → length (blocks_of (parse b)) ≤ 1024
+  few_by : (x : Result Found Fault) → read_unit b ≡ x → length (blocks_of (parse b)) ≤ 1024
   unfolding blocks_of
-  few_by (U.Unit found) e = omega (arith, blocks_count b found e, (unit_of b found e).few_blocks)
-  few_by (U.Refused f) e = rw (refused_whole b f e) (omega arith)
+  few_by (Ok found) e = omega (arith, blocks_count b found e, (unit_of b found e).few_blocks)
+  few_by (Err f) e = rw (refused_whole b f e) (omega arith)
 
   pub few_blocks : length (blocks_of (parse b)) ≤ 1024
   few_blocks = few_by (read_unit b) refl

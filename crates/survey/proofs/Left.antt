@@ -11,7 +11,6 @@ use Rattle.record.specs.Frame.{next_at}
 use Rattle.frame.specs.Variables as frame
 use Rattle.unitfile.specs.Unit.{BasicBlock, parse, read_unit}
 use Rattle.unitfile.specs.declared.Found.{Found}
-use Rattle.unitfile.specs.declared.ReadUnit.TheVariants as U
 use Rattle.survey.specs.Occurrences.{Occurrence, of_instructions, of_terminator, occurrences}
 use Rattle.survey.specs.Collected.{collected}
 use Rattle.survey.specs.Surveyed.{ids, endings, blocks_of, counted, surveyed_variables, surveyed_ids, surveyed_endings}
@@ -22,6 +21,7 @@ use Rattle.survey.proofs.Bytes.{terminator_names, chain_names}
 use Rattle.survey.specs.Standing.{BlockAt, Standing, none, more}
 use Rattle.survey.proofs.Standing.{standing}
 use Rattle.survey.proofs.Tallies.{nothing, then, answer, afterwards}
+use Rattle.std.specs.Prelude.{Ok}
 
 abbrev blocks : List ℕ → List BasicBlock
 blocks b = blocks_of (parse b)
@@ -41,7 +41,7 @@ pub record Left (b vs₀ is₀ es₀ vs is es : List ℕ) (at j : ℕ) (t : Tall
 
 -- ---- before the first block
 
-pub start : (b : List ℕ) (found : Found) (vs is es : List ℕ) → read_unit b ≡ U.Unit found → length vs ≡ 56 → Left b vs is es vs is es found.body 0 none_yet
+pub start : (b : List ℕ) (found : Found) (vs is es : List ℕ) → read_unit b ≡ Ok found → length vs ≡ 56 → Left b vs is es vs is es found.body 0 none_yet
 unfolding used
 start b found vs is es e size =
     record {

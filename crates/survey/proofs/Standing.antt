@@ -11,7 +11,6 @@ use Rattle.record.specs.declared.Record.TheVariants as R
 use Rattle.unitfile.specs.Records.{Cursor, Placed, records, at_block, records_from}
 use Rattle.unitfile.specs.Unit.{PlacedInstruction, BasicBlock, parse, read_unit}
 use Rattle.unitfile.specs.declared.Found.{Found}
-use Rattle.unitfile.specs.declared.ReadUnit.TheVariants as U
 use Rattle.unitfile.proofs.Blocks.{block_record, instruction_record, terminator_record, onto, flat}
 use Rattle.recordparts.specs.Stands.{InstructionAt, TerminatorAt}
 use Rattle.recordparts.proofs.InBytes.{block_in, instruction_in_lem, terminator_in_lem}
@@ -20,6 +19,7 @@ use Rattle.unitfile.proofs.Sizes.{payload_size, step_size}
 use Rattle.survey.specs.Surveyed.{blocks_of}
 use Rattle.survey.specs.Standing.{Chain, done, next, BlockAt, Standing, none, more}
 use Rattle.survey.proofs.Bounds.{blocks_flat}
+use Rattle.std.specs.Prelude.{Ok}
 
 -- ---- step by step
 
@@ -149,5 +149,5 @@ module _ (b : List ℕ) (maps : ℕ) where
       more h.block (subst (λ (at : ℕ). Standing b at ks) h.at_next (stands ks h.next h.rest))
 
 -- the blocks of a unit that was read
-pub standing : (b : List ℕ) (found : Found) → read_unit b ≡ U.Unit found → Standing b found.body (blocks_of (parse b))
+pub standing : (b : List ℕ) (found : Found) → read_unit b ≡ Ok found → Standing b found.body (blocks_of (parse b))
 standing b found e = stands b found.maps (blocks_of (parse b)) (at_block found.body found.blocks) (blocks_flat b found e)

@@ -13,7 +13,6 @@ use lib.Seq.{sets, sets-eq, length-sets, length-take-le, take_all, take_at, drop
 use Rattle.wire.specs.Pick.{pick}
 use Rattle.frame.specs.Variables.{Sorted, insert, inserted_answer, inserted_list}
 use Rattle.frame.specs.Hint.{index_by}
-use Rattle.frame.specs.declared.Inserted.TheVariants as I
 use Rattle.frame.proofs.Sorted.{insert_there}
 use Rattle.frame.proofs.Hints.{index_stands}
 use Rattle.operand.specs.Operand.{operand_in, operands_in}
@@ -23,9 +22,10 @@ use Rattle.survey.specs.Occurrences.{Occurrence, of_operand, of_operands}
 use Rattle.survey.specs.Collected.{Collected, all, too_many, collect}
 use Rattle.survey.specs.Surveyed.{variables_of, counted}
 use Rattle.survey.specs.Inner.{used, gathered, further, Holds, Takes, tallied}
-use Rattle.survey.specs.declared.Survey.TheVariants as S
 use Rattle.survey.specs.declared.occurrences.Tally.{Tally}
 use Rattle.survey.proofs.Sorted.{insert_from}
+use Rattle.std.specs.Prelude.{Err, None, Ok, Some}
+use Rattle.survey.specs.declared.Fault.TheVariants.{TooMany}
 
 -- ---- a tally by its count
 
@@ -144,24 +144,24 @@ module _ (l : List ℕ) (t : Tally) (place v : ℕ) (h : Holds t l) (few : t.cou
         }
 
   -- a count that is told is that of the list with v, which has room
-  told_by : (x : Bool) → leb (length w) (length l) ≡ x → (k : ℕ) → pick x (I.Count (length w)) I.Full ≡ I.Count k → (length w ≡ k) × (length w ≤ 56)
+  told_by : (x : Bool) → leb (length w) (length l) ≡ x → (k : ℕ) → pick x (Some (length w)) None ≡ Some k → (length w ≡ k) × (length w ≤ 56)
   told_by true e k a = (cc, omega (arith, leb-true (length w) (length l) e, h.size))
   told_by false e k a = let z : ◌≡◌ {A = ℕ} 0 1 = cc in absurd (omega arith)
 
-  told : (k : ℕ) → inserted_answer l n v ≡ I.Count k → (length w ≡ k) × (length w ≤ 56)
+  told : (k : ℕ) → inserted_answer l n v ≡ Some k → (length w ≡ k) × (length w ≤ 56)
   unfolding inserted_answer
   told = told_by (leb (length w) (length l)) refl
 
-  pub fits : (k : ℕ) → inserted_answer l n v ≡ I.Count k → k ≤ 56
+  pub fits : (k : ℕ) → inserted_answer l n v ≡ Some k → k ≤ 56
   fits k a = let c = told k a in omega arith
 
-  pub counts : {m : List ℕ} (k : ℕ) → inserted_answer l n v ≡ I.Count k → m ≡ inserted_list l n v → Took (record { count = k; place = t.place }) m
+  pub counts : {m : List ℕ} (k : ℕ) → inserted_answer l n v ≡ Some k → m ≡ inserted_list l n v → Took (record { count = k; place = t.place }) m
   unfolding inserted_list
   counts {m} k a b =
       let c = told k a in
       inserted (record { count = k; place = t.place }) m c.0 c.1 (b ∙ rw (le-leb (length w) (length l) (omega (arith, h.size))))
 
-  overflows_by : (x : Bool) → leb (length w) (length l) ≡ x → {m : List ℕ} → pick x (I.Count (length w)) I.Full ≡ I.Full → m ≡ pick x (sets l 0 w) l → Took (record { count = 57; place = place }) m
+  overflows_by : (x : Bool) → leb (length w) (length l) ≡ x → {m : List ℕ} → pick x (Some (length w)) None ≡ None → m ≡ pick x (sets l 0 w) l → Took (record { count = 57; place = place }) m
   unfolding used gathered further collect
   overflows_by true e a b = let z : ◌≡◌ {A = ℕ} 0 1 = cc in absurd (omega arith)
   overflows_by false e {m} a b =
@@ -175,7 +175,7 @@ module _ (l : List ℕ) (t : Tally) (place v : ℕ) (h : Holds t l) (few : t.cou
         rest = ap (drop 56) b;
       }
 
-  pub overflows : {m : List ℕ} → inserted_answer l n v ≡ I.Full → m ≡ inserted_list l n v → Took (record { count = 57; place = place }) m
+  pub overflows : {m : List ℕ} → inserted_answer l n v ≡ None → m ≡ inserted_list l n v → Took (record { count = 57; place = place }) m
   unfolding inserted_answer inserted_list
   overflows = overflows_by (leb (length w) (length l)) refl
 
@@ -208,10 +208,10 @@ module _ (b : List ℕ) (place i : ℕ) where
 -- ---- the end
 
 module _ (r : Tally) (m : List ℕ) (h : Holds r m) where
-  answer_by : (x : Bool) → ltb 56 r.count ≡ x → (found : Found) → pick x (S.TooMany r.place) (S.Unit found r.count) ≡ counted found (pick x (too_many r.place m) (all (take r.count m)))
+  answer_by : (x : Bool) → ltb 56 r.count ≡ x → (found : Found) → pick x (Err (TooMany r.place)) (Ok (found, r.count)) ≡ counted found (pick x (too_many r.place m) (all (take r.count m)))
   unfolding counted
   answer_by true e found = refl
-  answer_by false e found = ap (S.Unit found) (sym (length-take-le r.count m (omega (arith, h.size, ltb-false 56 r.count e))))
+  answer_by false e found = ap (λ (n : ℕ). Ok (found, n)) (sym (length-take-le r.count m (omega (arith, h.size, ltb-false 56 r.count e))))
 
   answer_of : (found : Found) → tallied found r ≡ counted found (gathered r m)
   unfolding tallied gathered

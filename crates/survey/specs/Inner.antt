@@ -1,5 +1,5 @@
 -- What the crate's own functions answer, while the pass goes on.
-use Rattle.std.specs.Prelude.{ℕ, ◌+◌, ◌≤◌, ◌≡◌, List, [], ◌++◌, eqb, ltb, length, take, drop}
+use Rattle.std.specs.Prelude.{ℕ, ◌+◌, ◌≤◌, ◌≡◌, List, [], ◌++◌, eqb, ltb, length, take, drop, Err, Ok, Result}
 use Rattle.std.specs.Int.{w32}
 use Rattle.wire.specs.Pick.{pick}
 use Rattle.wire.specs.Le.{byte_at, unsigned_at}
@@ -10,10 +10,10 @@ use Rattle.record.specs.Frame.{kind_at, next_at}
 use Rattle.unitfile.specs.declared.Found.{Found}
 use Rattle.survey.specs.Occurrences.{Occurrence, of_operand, of_operands}
 use Rattle.survey.specs.Collected.{Collected, all, too_many, collect}
-use Rattle.survey.specs.declared.Survey.{Survey}
-use Rattle.survey.specs.declared.Survey.TheVariants as S
 use Rattle.survey.specs.declared.occurrences.Tally.{Tally}
 use Rattle.survey.specs.declared.pass.Going.{Going}
+use Rattle.survey.specs.declared.Fault.{Fault}
+use Rattle.survey.specs.declared.Fault.TheVariants.{TooMany}
 
 -- how many places of the lent list are used
 unfoldable pub used : Tally → ℕ
@@ -40,8 +40,8 @@ pub record Takes (t : Tally) (l : List ℕ) (os : List Occurrence) (r : Tally) (
   pub gathers : gathered r m ≡ further (gathered t l) os
   pub rest : drop (used r) m ≡ drop (used r) l
 
-unfoldable pub tallied : Found → Tally → Survey
-tallied found t = pick (ltb 56 t.count) (S.TooMany t.place) (S.Unit found t.count)
+unfoldable pub tallied : Found → Tally → Result (Found × ℕ) Fault
+tallied found t = pick (ltb 56 t.count) (Err (TooMany t.place)) (Ok (found, t.count))
 
 -- ---- what the bytes of an instruction, and of a terminator, name
 

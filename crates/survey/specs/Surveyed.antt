@@ -1,13 +1,12 @@
 -- What a survey of a unit answers, and leaves in the lent lists: the variables, and of each block its id and the place of its terminator.
-use Rattle.std.specs.Prelude.{ℕ, List, [], ◌∷◌, length}
+use Rattle.std.specs.Prelude.{ℕ, List, [], ◌∷◌, length, Err, Ok, Result}
 use Rattle.std.proofs.lemmas.List.Edits.{sets}
 use Rattle.unitfile.specs.Unit.{BasicBlock, Parsed, parsed, refused, parse, read_unit}
 use Rattle.unitfile.specs.declared.Found.{Found}
-use Rattle.unitfile.specs.declared.ReadUnit.{ReadUnit}
-use Rattle.unitfile.specs.declared.ReadUnit.TheVariants as U
 use Rattle.survey.specs.Collected.{Collected, all, too_many, collected}
-use Rattle.survey.specs.declared.Survey.{Survey}
-use Rattle.survey.specs.declared.Survey.TheVariants as S
+use Rattle.record.specs.declared.Fault.{Fault as ReadFault}
+use Rattle.survey.specs.declared.Fault.{Fault}
+use Rattle.survey.specs.declared.Fault.TheVariants.{Reading, TooMany}
 
 unfoldable pub ids : List BasicBlock → List ℕ
 ids [] = []
@@ -26,15 +25,15 @@ variables_of (all variables) = variables
 variables_of (too_many place variables) = variables
 
 -- the answer: the unit that was found and how many variables it has; the reading refusal; or the record bringing the 57th variable
-unfoldable pub counted : Found → Collected → Survey
-counted found (all variables) = S.Unit found (length variables)
-counted found (too_many place variables) = S.TooMany place
+unfoldable pub counted : Found → Collected → Result (Found × ℕ) Fault
+counted found (all variables) = Ok (found, length variables)
+counted found (too_many place variables) = Err (TooMany place)
 
-unfoldable pub answered : ReadUnit → Collected → Survey
-answered (U.Unit found) c = counted found c
-answered (U.Refused f) c = S.Refused f
+unfoldable pub answered : Result Found ReadFault → Collected → Result (Found × ℕ) Fault
+answered (Ok found) c = counted found c
+answered (Err f) c = Err (Reading f)
 
-unfoldable pub surveyed : List ℕ → Survey
+unfoldable pub surveyed : List ℕ → Result (Found × ℕ) Fault
 surveyed b = answered (read_unit b) (collected (blocks_of (parse b)))
 
 -- the lists afterwards

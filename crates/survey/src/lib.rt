@@ -4,34 +4,37 @@
 mod occurrences;
 mod pass;
 
-ghost use Rattle.std.specs.Prelude.{◌≡◌};
+ghost use Rattle.std.specs.Prelude.{length, ◌≡◌};
 ghost use Rattle.survey.specs.Surveyed.{surveyed, surveyed_variables, surveyed_ids, surveyed_endings};
 
-use record::Fault;
-use unitfile::{Found, ReadUnit};
+use unitfile::Found;
 
-// The unit that was found and how many variables it has, the reading refusal, or the place of the record bringing the 57th variable.
+// Why a unit is not surveyed: the reading refusal, or the place of the record bringing the 57th variable.
 #[derive(Drop)]
-pub enum Survey {
-    Unit(Found, usize),
-    Refused(Fault),
+pub enum Fault {
+    Reading(record::Fault),
     TooMany(usize),
 }
+
+// What an array's copy shows of a lent one: how long it is.
+fn fixed(variables: [u32; 56])
+    ensures { length variables ≡ 56 }
+{}
 
 pub fn survey_unit(
     unit: &[u8],
     variables: &mut [u32; 56],
     ids: &mut [u32],
     endings: &mut [u32],
-) -> Survey
+) -> Result<(Found, usize), Fault>
     ensures value { result ≡ surveyed unit.now }
     ensures variables_after { variables.new ≡ surveyed_variables unit.now variables.old }
     ensures ids_after { ids.new ≡ surveyed_ids unit.now ids.old }
     ensures endings_after { endings.new ≡ surveyed_endings unit.now endings.old }
 {
-    frame::fixed(*variables);
+    fixed(*variables);
     match unitfile::read_unit(unit) {
-        ReadUnit::Unit(found) => pass::survey_blocks(unit, found, variables, ids, endings),
-        ReadUnit::Refused(f) => Survey::Refused(f),
+        Ok(found) => pass::survey_blocks(unit, found, variables, ids, endings),
+        Err(f) => Err(Fault::Reading(f)),
     }
 }

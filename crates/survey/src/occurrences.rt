@@ -5,7 +5,7 @@ ghost use Rattle.operand.specs.Operand.{operand_in, operands_in};
 ghost use Rattle.survey.specs.Occurrences.{of_operand, of_operands};
 ghost use Rattle.survey.specs.Inner.{Holds, Takes, of_instruction_in, of_terminator_in};
 
-use frame::{Inserted, hint};
+use frame::{Frame, hint};
 use ir::Operand;
 
 // How many variables the lent array holds, 57 once one more came; and then the place of the record that brought it.
@@ -21,7 +21,11 @@ fn index(variables: &[u32; 56], hints: &[u8; 256], n: usize, v: u32) -> usize
     ensures { result ≡ index_by (take n variables.now) hints.now v }
 {
     let all = &variables[..];
-    hint::index_at(&all[0..n], hints, v)
+    let frame = Frame {
+        variables: &all[0..n],
+        hints,
+    };
+    frame.index(v)
 }
 
 // A table for the first n: nothing rests on what it guesses.
@@ -45,14 +49,14 @@ fn insert(
     ensures { Takes tally variables.old (of_operand place (Operand.Var v)) result variables.new }
 {
     match frame::insert(variables, tally.count, v) {
-        Inserted::Count(more) => {
+        Some(more) => {
             guess_anew(variables, hints, more);
             Tally {
                 count: more,
                 place: tally.place,
             }
         }
-        Inserted::Full => Tally {
+        None => Tally {
             count: 57,
             place: place,
         },

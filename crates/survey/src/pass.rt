@@ -1,13 +1,13 @@
 // The pass over the blocks, one after the other.
-ghost use Rattle.std.specs.Prelude.{◌≡◌, ◌≤◌, length, set};
+ghost use Rattle.std.specs.Prelude.{◌≡◌, ◌≤◌, length, set, Ok};
 ghost use Rattle.unitfile.specs.Unit.{read_unit, parse};
 ghost use Rattle.survey.specs.Collected.{collected};
 ghost use Rattle.survey.specs.Surveyed.{blocks_of, counted, surveyed_variables, surveyed_ids, surveyed_endings};
 ghost use Rattle.survey.specs.Inner.{Holds, Over, tallied};
 
 use crate::occurrences::Tally;
-use crate::{Survey, occurrences};
-use unitfile::{Found, ReadUnit};
+use crate::{Fault, occurrences};
+use unitfile::Found;
 
 // Where the pass stands after the instructions of a block: the tally, and the place of the terminator.
 #[derive(Drop)]
@@ -49,13 +49,13 @@ fn over_instructions(
     }
 }
 
-fn answer(found: Found, tally: Tally) -> Survey
+fn answer(found: Found, tally: Tally) -> Result<(Found, usize), Fault>
     ensures { result ≡ tallied found tally }
 {
     if 56 < tally.count {
-        return Survey::TooMany(tally.place);
+        return Err(Fault::TooMany(tally.place));
     }
-    Survey::Unit(found, tally.count)
+    Ok((found, tally.count))
 }
 
 // The blocks of a unit that was read whole: 8 bytes of block record, the instructions, the terminator.
@@ -65,8 +65,8 @@ pub(crate) fn survey_blocks(
     variables: &mut [u32; 56],
     ids: &mut [u32],
     endings: &mut [u32],
-) -> Survey
-    requires unit_value { read_unit unit.now ≡ ReadUnit.Unit found }
+) -> Result<(Found, usize), Fault>
+    requires unit_value { read_unit unit.now ≡ Ok found }
     requires variables_len { length variables.old ≡ 56 }
     ensures value { result ≡ counted found (collected (blocks_of (parse unit.now))) }
     ensures variables_after { variables.new ≡ surveyed_variables unit.now variables.old }

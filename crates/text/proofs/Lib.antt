@@ -1,5 +1,4 @@
 pub mod Decimals
-pub mod Signs
 pub mod Steps
 pub mod Wrote
 pub mod LineLengths

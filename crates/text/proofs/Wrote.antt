@@ -1,14 +1,12 @@
 -- Pieces put one after the other are one text.
-use mathlib.Core.Path.{◌≡◌, refl, sym, ap, ◌∙◌}
+use mathlib.Core.Path.{◌≡◌, sym, ap, ◌∙◌}
 use mathlib.Core.Bool.{Bool, true, false}
-use mathlib.Core.List.{List, [], ◌++◌}
+use mathlib.Core.List.{List, ◌++◌}
 use Prim.Native.Nat.{ℕ, ◌+◌, ◌<◌, ◌≤◌}
-use native.Mathlib.Nat.{add-zero}
 use native.Mathlib.Omega.{arith}
 use borrow.Author.Tests.{le-leb, lt-leb, leb-true, leb-false}
 use lib.Dec.{leb}
 use lib.ListN.{length, length-append}
-use Rattle.wire.specs.Pick.{pick}
 use Rattle.wire.specs.Le.{store}
 use Rattle.wire.proofs.Store.{store_out, store_length, store_run}
 use Rattle.text.specs.Lines.{after}
@@ -28,14 +26,6 @@ pub record Wrote (b : List ℕ) (at : ℕ) (u c : List ℕ) (p : ℕ) : Type 0 w
 pub after_in : (b : List ℕ) (at : ℕ) (u : List ℕ) → at + length u ≤ length b → after b at u ≡ at + length u
 unfolding after
 after_in b at u h = rw (le-leb (at + length u) (length b) h)
-
-pub after_nothing : (b : List ℕ) (at : ℕ) → after b at [] ≡ at
-unfolding after
-after_nothing b at = go (leb (at + 0) (length b))
-  where
-    go : (t : Bool) → pick t (at + 0) at ≡ at
-    go true = add-zero at
-    go false = refl
 
 pub piece : (u : List ℕ) {b c : List ℕ} {at p : ℕ} → (p ≡ after b at u) × (c ≡ store b at u) → Wrote b at u c p
 piece u {b} {c} {at} e = record { left = λ h. e.1; next = λ h. e.0 ∙ after_in b at u h }

@@ -11,13 +11,14 @@ use lib.Seq.{sets}
 use Rattle.record.specs.declared.Fault as record-fault
 use Rattle.unitfile.specs.Unit.{BasicBlock, parse, read_unit}
 use Rattle.unitfile.specs.declared.Found.{Found}
-use Rattle.unitfile.specs.declared.ReadUnit.TheVariants as U
 use Rattle.unitfile.proofs.Units.{unit_of}
 use Rattle.unitfile.proofs.Whole.{refused_whole}
 use Rattle.flow.specs.Computed.{is_reached}
 use Rattle.survey.specs.Collected.{collected}
-use Rattle.survey.specs.Surveyed.{blocks_of}
-use Rattle.survey.proofs.Answers.{IsTooMany}
+use Rattle.survey.specs.Surveyed.{blocks_of, surveyed}
+use Rattle.survey.specs.declared.Fault as survey-fault
+use Rattle.survey.specs.declared.Fault.TheVariants as S
+use Rattle.survey.proofs.Answers.{IsTooMany, refused_means, too_many_means}
 use Rattle.lower.specs.Op.{Op, slots_of}
 use Rattle.lower.specs.declared.Reason.{Reason}
 use Rattle.layout.specs.Emitted.{nodes, emitted}
@@ -30,9 +31,10 @@ use Rattle.layout.proofs.Keep.{keep_by_lem}
 use Rattle.layout.proofs.Located.{edges_count}
 use Rattle.layout.proofs.Written.{relocations_count}
 use Rattle.jumps.specs.Landed.{marked, landed_of, landed_from}
-use Rattle.jumps.specs.declared.Landed.{Landed}
-use Rattle.jumps.specs.declared.Landed.TheVariants as L
-use Rattle.tracepoint.specs.Compile.{Lowering, faulty, on_landing, on_laid, on_collected, lowering, lowering_of, roomed, compile_answer, code_of, relocs_of, front, compile_code, compile_relocs}
+use Rattle.jumps.specs.declared.Astray.{Astray}
+use Rattle.jumps.specs.declared.Astray.TheVariants as L
+use Rattle.tracepoint.specs.Compile.{Lowering, faulty, on_landing, on_laid, on_collected, lowering, lowering_of, roomed, code_of, relocs_of, front}
+use Rattle.tracepoint.specs.Faults.{of_survey, of_measure, of_jumps}
 use Rattle.passes.specs.Inner.{context_of}
 use Rattle.passes.specs.Notes.{Noted}
 use Rattle.passes.specs.Tables.{size_of, Measured, Tables, unit_landing, Room}
@@ -40,57 +42,40 @@ use Rattle.passes.specs.Stages.{Surveyed, Linked, Ready}
 use Rattle.tracepoint.specs.Answers.{lowering_by, lowered_by, Answers}
 use Rattle.tracepoint.specs.declared.Fault.{Fault}
 use Rattle.tracepoint.specs.declared.Fault.TheVariants as F
-use Rattle.tracepoint.specs.declared.Compiled.{Compiled}
-use Rattle.tracepoint.specs.declared.Compiled.TheVariants as A
-use Rattle.passes.specs.declared.Size.{Size}
-use Rattle.passes.specs.declared.Size.TheVariants as S
 use Rattle.passes.proofs.Conditions.{context_is}
 use Rattle.passes.proofs.Tables.{stored_at}
 use Rattle.passes.proofs.Landing.{landed_unit}
+use Rattle.std.specs.Prelude.{Err, Ok, Result, ⊤}
+use Rattle.wire.proofs.Pairs.{ok_parts, err_parts}
 
 -- ---- answers
 
 -- a fault is told, and changes neither buffer
-pub at_fault : {l : Lowering} {f : Fault} (code relocs : List ℕ) → l ≡ faulty f → Answers l code relocs (A.Refused f) code relocs
+pub at_fault : {l : Lowering} {f : Fault} (code relocs : List ℕ) → l ≡ faulty f → Answers l code relocs (Err f) code relocs
 unfolding roomed front
 at_fault code relocs e = record { answer = rw e; code = refl; relocs = refl }
 
-pub same_answers : {l m : Lowering} {code relocs code' relocs' : List ℕ} {r : Compiled} → l ≡ m → Answers m code relocs r code' relocs' → Answers l code relocs r code' relocs'
+pub same_answers : {l m : Lowering} {code relocs code' relocs' : List ℕ} {r : Result (ℕ × ℕ) Fault} → l ≡ m → Answers m code relocs r code' relocs' → Answers l code relocs r code' relocs'
 same_answers {code = code} {relocs} {code'} {relocs'} {r} e a = subst (λ (x : Lowering). Answers x code relocs r code' relocs') (sym e) a
-
-module _ (b code relocs code' relocs' : List ℕ) {r : Compiled} (a : Answers (lowering_of (parse b)) code relocs r code' relocs') where
-  answered : r ≡ compile_answer b (length code) (length relocs)
-  unfolding compile_answer
-  answered = a.answer
-
-  code_left : code' ≡ compile_code b code (length relocs)
-  unfolding compile_code
-  code_left = a.code ∙ ap (λ (x : Compiled). front x (code_of (lowering_of (parse b))) code) answered
-
-  relocs_left : relocs' ≡ compile_relocs b (length code) relocs
-  unfolding compile_relocs
-  relocs_left = a.relocs ∙ ap (λ (x : Compiled). front x (relocs_of (lowering_of (parse b))) relocs) answered
-
-  -- what is promised
-  pub compiles : (r ≡ compile_answer b (length code) (length relocs)) × ((code' ≡ compile_code b code (length relocs)) × (relocs' ≡ compile_relocs b (length code) relocs))
-  compiles = (answered, (code_left, relocs_left))
 
 -- ---- the lowering of a unit
 
-refused_lowering : (b : List ℕ) (f : record-fault.Fault) → read_unit b ≡ U.Refused f → lowering_of (parse b) ≡ faulty (F.Reading f)
+refused_lowering : (b : List ℕ) (f : record-fault.Fault) → read_unit b ≡ Err f → lowering_of (parse b) ≡ faulty (F.Reading f)
 unfolding lowering_of
 refused_lowering b f e = rw (refused_whole b f e)
 
-read_lowering : (b : List ℕ) (found : Found) → read_unit b ≡ U.Unit found → lowering_of (parse b) ≡ on_collected (blocks_of (parse b)) (collected (blocks_of (parse b)))
+read_lowering : (b : List ℕ) (found : Found) → read_unit b ≡ Ok found → lowering_of (parse b) ≡ on_collected (blocks_of (parse b)) (collected (blocks_of (parse b)))
 unfolding lowering_of lowering blocks_of
 read_lowering b found e = rw (unit_of b found e).parsed_as
 
-pub when_refused : (b : List ℕ) (f : record-fault.Fault) → read_unit b ≡ U.Refused f → (code relocs : List ℕ) → Answers (lowering_of (parse b)) code relocs (A.Refused (F.Reading f)) code relocs
-when_refused b f e code relocs = at_fault code relocs (refused_lowering b f e)
-
-pub when_too_many : {b : List ℕ} {place : ℕ} → IsTooMany b place → (code relocs : List ℕ) → Answers (lowering_of (parse b)) code relocs (A.Refused (F.Variables place)) code relocs
+many_lowering : {b : List ℕ} {place : ℕ} → IsTooMany b place → lowering_of (parse b) ≡ faulty (F.Variables place)
 unfolding on_collected
-when_too_many {b} {place} m code relocs = at_fault code relocs (read_lowering b m.found m.read ∙ ap (on_collected (blocks_of (parse b))) m.collects)
+many_lowering {b} m = read_lowering b m.found m.read ∙ ap (on_collected (blocks_of (parse b))) m.collects
+
+pub when_unsurveyed : (b : List ℕ) (f : survey-fault.Fault) → surveyed b ≡ Err f → (code relocs : List ℕ) → Answers (lowering_of (parse b)) code relocs (Err (of_survey f)) code relocs
+unfolding of_survey
+when_unsurveyed b (S.Reading f) e code relocs = at_fault code relocs (refused_lowering b f (refused_means b f e))
+when_unsurveyed b (S.TooMany place) e code relocs = at_fault code relocs (many_lowering (too_many_means b place e))
 
 -- by the tables: the variables' marks tell the conditions, and the flags which blocks are emitted
 module _ (n : ℕ) (hs : List ℕ) {b : List ℕ} {found : Found} {vs is es cs ts ms counts named em numbers : List ℕ} (s : Surveyed b found vs is es) (k : Noted (blocks_of (parse b)) vs (replicate n 0) cs ts ms counts named) (l : Linked (blocks_of (parse b)) em numbers es counts named) where
@@ -110,13 +95,12 @@ module _ (n : ℕ) (hs : List ℕ) {b : List ℕ} {found : Found} {vs is es cs t
 
 -- ---- the measuring
 
-refused_size : (x : Laid) (place : ℕ) (r : Reason) → S.Refused place r ≡ size_of x → x ≡ refused_at place r
+refused_size : (x : Laid) (place : ℕ) (r : Reason) → Err (place, r) ≡ size_of x → x ≡ refused_at place r
 unfolding size_of
 refused_size (laid l) place r e = let z : ◌≡◌ {A = ℕ} 0 1 = cc in absurd (omega arith)
 refused_size (refused_at p q) place r e =
-    let y : p ≡ place = cc in
-    let z : q ≡ r = cc in
-    cc
+    let same = err_parts e in
+    cc (same.0, same.1)
 
 -- a unit of which nothing is refused
 record Sized (x : Laid) (n m : ℕ) : Type 0 where
@@ -124,15 +108,15 @@ record Sized (x : Laid) (n m : ℕ) : Type 0 where
   slots : n ≡ slots_of (ops x)
   maps : m ≡ maps_of (ops x)
 
-slots_size : (x : Laid) (n m : ℕ) → S.Slots n m ≡ size_of x → Sized x n m
+slots_size : (x : Laid) (n m : ℕ) → Ok (n, m) ≡ size_of x → Sized x n m
 unfolding size_of ops
 slots_size (laid l) n m e =
-    let y : n ≡ slots_of l = cc in
-    let z : m ≡ maps_of l = cc in
+    let y : n ≡ slots_of l = (ok_parts e).0 in
+    let z : m ≡ maps_of l = (ok_parts e).1 in
     record { fine = refl; slots = y; maps = z }
 slots_size (refused_at p q) n m e = let z : ◌≡◌ {A = ℕ} 0 1 = cc in absurd (omega arith)
 
-no_target_lem : (x : Landing) (place id : ℕ) → L.NoTarget place id ≡ landed_of x → x ≡ no_target place id
+no_target_lem : (x : Landing) (place id : ℕ) → Err (L.NoTarget place id) ≡ landed_of x → x ≡ no_target place id
 unfolding landed_of
 no_target_lem lands place id e = let z : ◌≡◌ {A = ℕ} 0 1 = cc in absurd (omega arith)
 no_target_lem (no_target p i) place id e =
@@ -141,7 +125,7 @@ no_target_lem (no_target p i) place id e =
     cc
 no_target_lem (too_far p i) place id e = let z : ◌≡◌ {A = ℕ} 0 1 = cc in absurd (omega arith)
 
-too_far_lem : (x : Landing) (place id : ℕ) → L.TooFar place id ≡ landed_of x → x ≡ too_far place id
+too_far_lem : (x : Landing) (place id : ℕ) → Err (L.TooFar place id) ≡ landed_of x → x ≡ too_far place id
 unfolding landed_of
 too_far_lem lands place id e = let z : ◌≡◌ {A = ℕ} 0 1 = cc in absurd (omega arith)
 too_far_lem (no_target p i) place id e = let z : ◌≡◌ {A = ℕ} 0 1 = cc in absurd (omega arith)
@@ -150,21 +134,21 @@ too_far_lem (too_far p i) place id e =
     let z : i ≡ id = cc in
     cc
 
-all_land : (x : Landing) → L.Lands ≡ landed_of x → x ≡ lands
+all_land : (x : Landing) → Ok tt ≡ landed_of x → x ≡ lands
 unfolding landed_of
 all_land lands e = refl
 all_land (no_target p i) e = let z : ◌≡◌ {A = ℕ} 0 1 = cc in absurd (omega arith)
 all_land (too_far p i) e = let z : ◌≡◌ {A = ℕ} 0 1 = cc in absurd (omega arith)
 
-module _ (c : Context) (bs : List BasicBlock) (em ls ls' : List ℕ) {r : Size} (m : Measured c (marked em) bs ls r ls') where
+module _ (c : Context) (bs : List BasicBlock) (em ls ls' : List ℕ) {r : Result (ℕ × ℕ) (ℕ × Reason)} (m : Measured c (marked em) bs ls r ls') where
   abbrev e : ℕ → Bool
   e = marked em
 
-  pub when_faulty : (place : ℕ) (reason : Reason) → r ≡ S.Refused place reason → (code relocs : List ℕ) → Answers (lowering_by c e bs) code relocs (A.Refused (F.Instruction place reason)) code relocs
+  pub when_faulty : (place : ℕ) (reason : Reason) → r ≡ Err (place, reason) → (code relocs : List ℕ) → Answers (lowering_by c e bs) code relocs (Err (of_measure (place, reason))) code relocs
   unfolding on_laid
   when_faulty place reason q code relocs = at_fault code relocs (ap (on_laid c (keep_by e 0 bs)) (refused_size _ place reason (sym q ∙ m.size)))
 
-  module _ {numbers es counts named : List ℕ} (l : Linked bs em numbers es counts named) (n k : ℕ) (q : r ≡ S.Slots n k) (room : length bs < length ls) where
+  module _ {numbers es counts named : List ℕ} (l : Linked bs em numbers es counts named) (n k : ℕ) (q : r ≡ Ok (n, k)) (room : length bs < length ls) where
     sized : Sized (unit_ops c (keep_by e 0 bs)) n k
     sized = slots_size _ n k (sym q ∙ m.size)
 
@@ -189,22 +173,19 @@ module _ (c : Context) (bs : List BasicBlock) (em ls ls' : List ℕ) {r : Size} 
     lowers = ap (on_laid c (keep_by e 0 bs)) sized.fine
 
     -- where the jumps of all blocks land, by their numbers
-    module _ {count : ℕ} (z : count ≡ length bs) {a : Landed} (h : a ≡ landed_from em ls' es counts named numbers 0 count) where
+    module _ {count : ℕ} (z : count ≡ length bs) {a : Result ⊤ Astray} (h : a ≡ landed_from em ls' es counts named numbers 0 count) where
       landed_is : a ≡ landed_of (unit_landing c e bs)
       landed_is = h ∙ ap (λ (x : ℕ). landed_from em ls' es counts named numbers 0 x) z ∙ landed_unit em tables l.told
 
       landing_is : {x : Landing} → unit_landing c e bs ≡ x → lowering_by c e bs ≡ on_landing x (starts c (keep_by e 0 bs)) (ops (unit_ops c (keep_by e 0 bs)))
       landing_is q = lowers ∙ ap (λ (y : Landing). on_landing y (starts c (keep_by e 0 bs)) (ops (unit_ops c (keep_by e 0 bs)))) q
 
-      pub when_no_target : (place id : ℕ) → a ≡ L.NoTarget place id → (code relocs : List ℕ) → Answers (lowering_by c e bs) code relocs (A.Refused (F.NoTarget place id)) code relocs
-      unfolding on_landing
-      when_no_target place id g code relocs = at_fault code relocs (landing_is (no_target_lem _ place id (sym g ∙ landed_is)))
+      pub when_astray : (f : Astray) → a ≡ Err f → (code relocs : List ℕ) → Answers (lowering_by c e bs) code relocs (Err (of_jumps f)) code relocs
+      unfolding on_landing of_jumps
+      when_astray (L.NoTarget place id) g code relocs = at_fault code relocs (landing_is (no_target_lem _ place id (sym g ∙ landed_is)))
+      when_astray (L.TooFar place id) g code relocs = at_fault code relocs (landing_is (too_far_lem _ place id (sym g ∙ landed_is)))
 
-      pub when_too_far : (place id : ℕ) → a ≡ L.TooFar place id → (code relocs : List ℕ) → Answers (lowering_by c e bs) code relocs (A.Refused (F.TooFar place id)) code relocs
-      unfolding on_landing
-      when_too_far place id g code relocs = at_fault code relocs (landing_is (too_far_lem _ place id (sym g ∙ landed_is)))
-
-      module _ (g : a ≡ L.Lands) where
+      module _ (g : a ≡ Ok tt) where
         pub ready : Ready c e bs ls' numbers n k
         ready =
             record {
@@ -217,7 +198,7 @@ module _ (c : Context) (bs : List BasicBlock) (em ls ls' : List ℕ) {r : Size} 
               numbers_size = l.numbers_size;
             }
 
-        pub when_lands : {code relocs code' relocs' : List ℕ} {x : Compiled} → Answers (lowered_by c e bs) code relocs x code' relocs' → Answers (lowering_by c e bs) code relocs x code' relocs'
+        pub when_lands : {code relocs code' relocs' : List ℕ} {x : Result (ℕ × ℕ) Fault} → Answers (lowered_by c e bs) code relocs x code' relocs' → Answers (lowering_by c e bs) code relocs x code' relocs'
         unfolding on_landing
         when_lands = same_answers (landing_is (all_land _ (sym g ∙ landed_is)))
 
@@ -227,7 +208,7 @@ module _ (c : Context) (e : ℕ → Bool) (bs : List BasicBlock) {edges numbers 
   abbrev l : List Op
   l = ops (unit_ops c (keep_by e 0 bs))
 
-  abbrev Written : Compiled → List ℕ → List ℕ → Type 0
+  abbrev Written : Result (ℕ × ℕ) Fault → List ℕ → List ℕ → Type 0
   Written = Answers (lowered_by c e bs) code relocs
 
   pairs : length (relocations 0 l) ≡ 2 * m
@@ -236,12 +217,12 @@ module _ (c : Context) (e : ℕ → Bool) (bs : List BasicBlock) {edges numbers 
   bytes : 8 * slots_of l ≡ 8 * n
   bytes = ap (λ (x : ℕ). 8 * x) (sym r.slots)
 
-  pub no_code_room : length code < 8 * n → Written (A.Refused (F.CodeRoom (8 * n))) code relocs
+  pub no_code_room : length code < 8 * n → Written (Err (F.CodeRoom (8 * n))) code relocs
   unfolding roomed front
   no_code_room h = record { answer = rw (bytes, lt-leb (8 * n) (length code) h); code = refl; relocs = refl }
 
   module _ (fits : 8 * n ≤ length code) where
-    pub no_reloc_room : length relocs < 2 * m → Written (A.Refused (F.RelocRoom (2 * m))) code relocs
+    pub no_reloc_room : length relocs < 2 * m → Written (Err (F.RelocRoom (2 * m))) code relocs
     unfolding roomed front
     no_reloc_room h = record { answer = rw (bytes, le-leb (8 * n) (length code) fits, pairs, lt-leb (2 * m) (length relocs) h); code = refl; relocs = refl }
 
@@ -251,11 +232,11 @@ module _ (c : Context) (e : ℕ → Bool) (bs : List BasicBlock) {edges numbers 
     half : 2 * m / 2 ≡ m
     half = omega arith
 
-    pub written : {code' relocs' : List ℕ} → 2 * m ≤ length relocs → code' ≡ sets code 0 (code_bytes (insns (starts c (keep_by e 0 bs)) 0 l)) → relocs' ≡ sets relocs 0 (relocations 0 l) → Written (A.Done n m) code' relocs'
+    pub written : {code' relocs' : List ℕ} → 2 * m ≤ length relocs → code' ≡ sets code 0 (code_bytes (insns (starts c (keep_by e 0 bs)) 0 l)) → relocs' ≡ sets relocs 0 (relocations 0 l) → Written (Ok (n, m)) code' relocs'
     unfolding roomed front code_of relocs_of
     written h p q =
         record {
-          answer = rw (bytes, le-leb (8 * n) (length code) fits, pairs, le-leb (2 * m) (length relocs) h, half) (ap (λ (x : ℕ). A.Done x m) r.slots);
+          answer = rw (bytes, le-leb (8 * n) (length code) fits, pairs, le-leb (2 * m) (length relocs) h, half) (ap (λ (x : ℕ). Ok (x, m)) r.slots);
           code = p;
           relocs = q;
         }

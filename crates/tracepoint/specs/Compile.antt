@@ -1,5 +1,5 @@
 -- `compile_tracepoint`: the answer and both buffers at exit.
-use Rattle.std.specs.Prelude.{ℕ, ◌/◌, List, [], leb, ℤ, pos, length}
+use Rattle.std.specs.Prelude.{ℕ, ◌/◌, List, [], leb, ℤ, pos, length, Err, Ok, Result}
 use Rattle.std.proofs.lemmas.List.Edits.{sets}
 use Rattle.wire.specs.Number.{bytes_before}
 use Rattle.wire.specs.Pick.{pick}
@@ -18,8 +18,6 @@ use Rattle.layout.specs.Jumps.{Start, Landing, lands, no_target, too_far, starts
 use Rattle.layout.specs.Code.{insns, code_bytes, relocations}
 use Rattle.tracepoint.specs.declared.Fault.{Fault}
 use Rattle.tracepoint.specs.declared.Fault.TheVariants as F
-use Rattle.tracepoint.specs.declared.Compiled.{Compiled}
-use Rattle.tracepoint.specs.declared.Compiled.TheVariants as A
 
 -- 01's number, place and value of each fault
 abbrev pub told : ℕ → ℕ → ℤ → Refusal
@@ -73,14 +71,14 @@ lowering_of (parsed u) = lowering u
 lowering_of (refused f) = faulty (F.Reading f)
 
 -- then 21 and 22, by the rooms: bytes of the code buffer, u32s of the relocation buffer
-unfoldable pub roomed : ℕ → ℕ → Lowering → Compiled
-roomed code relocs (faulty f) = A.Refused f
+unfoldable pub roomed : ℕ → ℕ → Lowering → Result (ℕ × ℕ) Fault
+roomed code relocs (faulty f) = Err f
 roomed code relocs (lowered xs l) =
     pick (leb (bytes_before (slots_of l)) code)
-    (pick (leb (length (relocations 0 l)) relocs) (A.Done (slots_of l) (length (relocations 0 l) / 2)) (A.Refused (F.RelocRoom (length (relocations 0 l)))))
-    (A.Refused (F.CodeRoom (bytes_before (slots_of l))))
+    (pick (leb (length (relocations 0 l)) relocs) (Ok (slots_of l, length (relocations 0 l) / 2)) (Err (F.RelocRoom (length (relocations 0 l)))))
+    (Err (F.CodeRoom (bytes_before (slots_of l))))
 
-unfoldable pub compile_answer : List ℕ → ℕ → ℕ → Compiled
+unfoldable pub compile_answer : List ℕ → ℕ → ℕ → Result (ℕ × ℕ) Fault
 compile_answer b code relocs = roomed code relocs (lowering_of (parse b))
 
 -- the buffers: the code's bytes, and the pairs, at the front of theirs; a refused call changes none
@@ -92,9 +90,9 @@ unfoldable pub relocs_of : Lowering → List ℕ
 relocs_of (lowered xs l) = relocations 0 l
 relocs_of (faulty f) = []
 
-unfoldable pub front : Compiled → List ℕ → List ℕ → List ℕ
-front (A.Done slots relocs) new buffer = sets buffer 0 new
-front (A.Refused f) new buffer = buffer
+unfoldable pub front : Result (ℕ × ℕ) Fault → List ℕ → List ℕ → List ℕ
+front (Ok (slots, relocs)) new buffer = sets buffer 0 new
+front (Err f) new buffer = buffer
 
 unfoldable pub compile_code : List ℕ → List ℕ → ℕ → List ℕ
 compile_code b code relocs = front (compile_answer b (length code) relocs) (code_of (lowering_of (parse b))) code

@@ -1,2 +1,5 @@
 pub mod Compile
+pub mod Faults
 pub mod Answers
+pub mod Lent
+pub mod Tables

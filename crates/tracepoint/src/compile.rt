@@ -1,132 +1,123 @@
 // A unit that was surveyed, pass by pass: what its terminators tell, what is emitted, how much it takes, where its jumps land, whether there is room. Then it is written.
-ghost use Rattle.std.specs.Prelude.{◌≡◌, ◌+◌, ◌≤◌, length};
-ghost use Rattle.unitfile.specs.Unit.{parse, read_unit};
+ghost use Rattle.std.specs.Prelude.{◌≡◌, ◌<◌, length};
+ghost use Rattle.unitfile.specs.Unit.{parse};
 ghost use Rattle.survey.specs.Collected.{all, collected};
 ghost use Rattle.survey.specs.Surveyed.{blocks_of};
 ghost use Rattle.jumps.specs.Landed.{marked};
 ghost use Rattle.tracepoint.specs.Compile.{lowering_of};
-ghost use Rattle.passes.specs.Inner.{context_of};
-ghost use Rattle.passes.specs.Notes.{EndsAt};
-ghost use Rattle.passes.specs.Stages.{Spacious, Surveyed, Linked, Ready};
+ghost use Rattle.passes.specs.Stages.{Surveyed, Ready};
+ghost use Rattle.tracepoint.specs.Lent.{context_in, blocks_in};
 ghost use Rattle.tracepoint.specs.Answers.{lowering_by, lowered_by, Answers};
+ghost use Rattle.tracepoint.specs.Tables.{Holds};
 
-use crate::{Compiled, Fault, context, measure, write};
-use frame::hint;
-use jumps::Landed;
-use passes::Size;
-use unitfile::{Found, ReadUnit};
+use crate::context::{self, Context};
+use crate::links::Links;
+use crate::tables::Tables;
+use crate::{Fault, measure, write};
+use frame::{Frame, hint};
+use unitfile::Found;
 use wire::number::{SlotNumber, byte_offset};
 
 // The refusals 21 and 22; or the code and the relocations, written.
 fn write_roomed(
-    unit: &[u8],
-    found: Found,
-    variables: &[u32],
-    hints: &[u8; 256],
-    marks: &[u8; 56],
-    emitted: &[u8],
-    endings: &[u32],
+    context: Context<'_>,
+    links: Links<'_>,
     edges: &[u32],
-    numbers: &[u32],
     slots: u32,
     maps: u32,
     code: &mut [u8],
     relocs: &mut [u32],
-) -> Compiled
-    requires unit_value { read_unit unit.now ≡ ReadUnit.Unit found }
-    requires variables_len_bound { (length variables.now ≤ 56) × EndsAt unit.now endings.now × (found.blocks ≤ length emitted.now) }
-    requires ready { Ready (context_of variables.now hints.now marks.now) (marked emitted.now) (blocks_of (parse unit.now)) edges.now numbers.now slots maps }
-    ensures { Answers (lowered_by (context_of variables.now hints.now marks.now) (marked emitted.now) (blocks_of (parse unit.now))) code.old relocs.old result code.new relocs.new }
+) -> Result<(u32, u32), Fault>
+    requires { Ready (context_in context) (marked links.emitted.now) (blocks_in links) edges.now links.numbers.now slots maps }
+    ensures { Answers (lowered_by (context_in context.entry) (marked links.entry.emitted.now) (blocks_in links.entry)) code.old relocs.old result code.new relocs.new }
 {
     let bytes = byte_offset(SlotNumber(slots)).0 as u32;
     if code.len() < bytes as usize {
-        return Compiled::Refused(Fault::CodeRoom(bytes));
+        return Err(Fault::CodeRoom(bytes));
     }
     let pairs = 2 * maps;
     if relocs.len() < pairs as usize {
-        return Compiled::Refused(Fault::RelocRoom(pairs));
+        return Err(Fault::RelocRoom(pairs));
     }
-    write::write_unit(
-        unit, found, variables, hints, marks, emitted, endings, edges, numbers, code, relocs,
-    );
-    Compiled::Done(slots, maps)
+    write::write_unit(context, links, edges, code, relocs);
+    Ok((slots, maps))
 }
 
 // The first refusal of an emitted block, in file order; then those of the jumps, in patch order.
 fn compile_linked(
-    unit: &[u8],
-    found: Found,
-    variables: &[u32],
-    hints: &[u8; 256],
-    marks: &[u8; 56],
-    emitted: &[u8],
-    numbers: &[u32],
-    endings: &[u32],
-    counts: &[u8],
-    named: &[u32],
+    context: Context<'_>,
+    links: Links<'_>,
     edges: &mut [u32],
     code: &mut [u8],
     relocs: &mut [u32],
-) -> Compiled
-    requires unit_value { read_unit unit.now ≡ ReadUnit.Unit found }
-    requires unit_value_2 { (collected (blocks_of (parse unit.now)) ≡ all variables.now) × EndsAt unit.now endings.now × (found.blocks + 1 ≤ length edges.old) }
-    requires linked { Linked (blocks_of (parse unit.now)) emitted.now numbers.now endings.now counts.now named.now }
-    ensures { Answers (lowering_by (context_of variables.now hints.now marks.now) (marked emitted.now) (blocks_of (parse unit.now))) code.old relocs.old result code.new relocs.new }
+) -> Result<(u32, u32), Fault>
+    requires collects { collected (blocks_in links) ≡ all context.frame.variables.now }
+    requires edges_size { links.found.blocks < length edges.old }
+    ensures { Answers (lowering_by (context_in context.entry) (marked links.entry.emitted.now) (blocks_in links.entry)) code.old relocs.old result code.new relocs.new }
 {
-    match measure::measure(
-        unit, found, variables, hints, marks, emitted, endings, edges,
-    ) {
-        Size::Refused(place, reason) => Compiled::Refused(Fault::Instruction(place, reason)),
-        Size::Slots(slots, maps) => {
-            match jumps::check_jumps(
-                found.blocks,
-                emitted,
-                edges,
-                endings,
-                counts,
-                named,
-                numbers,
-            ) {
-                Landed::NoTarget(place, id) => Compiled::Refused(Fault::NoTarget(place, id)),
-                Landed::TooFar(place, id) => Compiled::Refused(Fault::TooFar(place, id)),
-                Landed::Lands => write_roomed(
-                    unit, found, variables, hints, marks, emitted, endings, edges, numbers, slots,
-                    maps, code, relocs,
-                ),
-            }
-        }
-    }
+    let (slots, maps) = measure::measure(context, links, edges)?;
+    let tables = jumps::Tables {
+        emitted: links.emitted,
+        edges,
+        endings: links.endings,
+        counts: links.counts,
+        named: links.named,
+        numbers: links.numbers,
+    };
+    jumps::check_jumps(links.found.blocks, &tables)?;
+    write_roomed(context, links, edges, slots, maps, code, relocs)
 }
 
 // The branch conditions of all blocks, and the blocks that are emitted.
-pub(crate) fn compile_surveyed(
+pub(crate) fn compile_surveyed<const BLOCKS: usize, const TARGETS: usize, const EDGES: usize>(
     unit: &[u8],
     found: Found,
     variables: &[u32],
-    ids: &[u32],
-    endings: &[u32],
-    counts: &mut [u8],
-    named: &mut [u32],
-    numbers: &mut [u32],
-    emitted: &mut [u8],
-    edges: &mut [u32],
+    tables: &mut Tables<BLOCKS, TARGETS, EDGES>,
     code: &mut [u8],
     relocs: &mut [u32],
-) -> Compiled
-    requires surveyed { Surveyed unit.now found variables.now ids.now endings.now }
-    requires spacious { Spacious (length (blocks_of (parse unit.now))) (length ids.now) (length endings.now) (length counts.old) (length named.old) (length numbers.old) (length emitted.old) (length edges.old) }
+) -> Result<(u32, u32), Fault>
+    requires surveyed { Surveyed unit.now found variables.now tables.old.ids tables.old.endings }
+    requires spacious { Holds (length (blocks_of (parse unit.now))) BLOCKS TARGETS EDGES }
     ensures { Answers (lowering_of (parse unit.now)) code.old relocs.old result code.new relocs.new }
 {
     let mut hints = [0u8; 256];
     hint::put_hints(variables, &mut hints);
+    let frame = Frame {
+        variables,
+        hints: &hints,
+    };
     let mut marks = [0u8; 56];
     context::note_blocks(
-        unit, found, variables, &hints, endings, &mut marks, counts, named, numbers,
+        unit,
+        found,
+        frame,
+        &tables.endings,
+        &mut marks,
+        &mut tables.counts,
+        &mut tables.named,
+        &mut tables.numbers,
     );
     let n = found.blocks as usize;
-    flow::link(n, ids, counts, numbers, emitted);
-    compile_linked(
-        unit, found, variables, &hints, &marks, emitted, numbers, endings, counts, named, edges,
-        code, relocs,
-    )
+    flow::link(
+        n,
+        &tables.ids,
+        &tables.counts,
+        &mut tables.numbers,
+        &mut tables.emitted,
+    );
+    let context = Context {
+        frame,
+        marks: &marks,
+    };
+    let links = Links {
+        unit,
+        found,
+        emitted: &tables.emitted,
+        numbers: &tables.numbers,
+        endings: &tables.endings,
+        counts: &tables.counts,
+        named: &tables.named,
+    };
+    compile_linked(context, links, &mut tables.edges, code, relocs)
 }

@@ -1,60 +1,71 @@
 // What lowering is told of a whole unit: which variables are branch conditions of any block, and where each block goes.
-ghost use Rattle.std.specs.Prelude.{◌≡◌, ◌+◌, ◌*◌, ◌≤◌, ◌<◌, length};
-ghost use Rattle.recordparts.specs.Terminator.{terminator_in};
+ghost use Rattle.std.specs.Prelude.{◌≡◌, ◌+◌, ◌*◌, ◌≤◌, ◌<◌, length, Ok};
 ghost use Rattle.unitfile.specs.Unit.{parse, read_unit};
-ghost use Rattle.frame.specs.Hint.{index_by};
+ghost use Rattle.frame.specs.Lent.{index_in};
 ghost use Rattle.survey.specs.Surveyed.{blocks_of};
 ghost use Rattle.survey.specs.Collected.{Fits};
-ghost use Rattle.passes.specs.Inner.{condition_at, mark_at, context_of, condition_in};
+ghost use Rattle.passes.specs.Inner.{mark_at, condition_in};
 ghost use Rattle.passes.specs.Notes.{marks_after, count_of, first_target, second_target, Notes, EndsAt, Noted};
 
-use frame::hint;
+use frame::Frame;
 use ir::{Operand, Terminator};
-use unitfile::{Found, ReadUnit};
+use recordparts::terminator::terminator_in;
+use unitfile::Found;
 
-// A variable's mark.
-fn is_condition(variables: &[u32], hints: &[u8; 256], marks: &[u8; 56], v: u32) -> bool
-    requires { length variables.now ≤ 56 }
-    ensures { result ≡ condition_at variables.now marks.now (index_by variables.now hints.now v) }
-{
-    let i = hint::index_at(variables, hints, v);
-    if i < variables.len() {
-        return marks[i] == 1;
-    }
-    false
+// The frame of a unit, and a mark beside each of its variables, 1 where it is a branch condition of any block.
+#[derive(Clone, Copy)]
+pub(crate) struct Context<'a> {
+    pub frame: Frame<'a>,
+    pub marks: &'a [u8; 56],
+    ghost few: { length frame.variables.now ≤ 56 },
 }
 
-// That of the result of the instruction in a payload. Only a NullCheck, code 7, goes by it; for any other it is not looked for.
-pub(crate) fn condition_of(
-    variables: &[u32],
-    hints: &[u8; 256],
-    marks: &[u8; 56],
-    payload: &[u8],
-) -> bool
-    requires { length variables.now ≤ 56 }
-    ensures { result ≡ condition_in (context_of variables.now hints.now marks.now) payload.now }
-{
-    if wire::get_u8(payload, 4) == 7 {
-        return is_condition(variables, hints, marks, wire::get_u32(payload, 0));
+impl Context<'_> {
+    ghost use Rattle.tracepoint.specs.Lent.{context_in};
+
+    // A variable's mark.
+    #[tactic(auto, unfolding(passes::specs::Inner::condition_at, jumps::specs::Landed::marked))]
+    fn is_condition(self, v: u32) -> bool
+        ensures { result ≡ (context_in self.entry).condition v }
+    {
+        let i = self.frame.index(v);
+        if i < self.frame.variables.len() {
+            return self.marks[i] == 1;
+        }
+        false
     }
-    false
+
+    // That of the result of the instruction in a payload. Only a NullCheck, code 7, goes by it; for any other it is not looked for.
+    #[tactic(auto, unfolding(passes::specs::Inner::condition_in))]
+    pub(crate) fn condition_of(self, payload: &[u8]) -> bool
+        ensures { result ≡ condition_in (context_in self.entry) payload.now }
+    {
+        if wire::get_u8(payload, 4) == 7 {
+            return self.is_condition(wire::get_u32(payload, 0));
+        }
+        false
+    }
 }
 
-fn mark(variables: &[u32], hints: &[u8; 256], marks: &mut [u8; 56], v: u32)
-    requires { length variables.now ≤ 56 }
-    ensures { marks.new ≡ mark_at variables.now marks.old (index_by variables.now hints.now v) }
+// ---- what the terminators tell
+
+#[tactic(auto, unfolding(passes::specs::Inner::mark_at))]
+fn mark(frame: Frame<'_>, marks: &mut [u8; 56], v: u32)
+    requires { length frame.variables.now ≤ 56 }
+    ensures { marks.new ≡ mark_at frame.entry.variables.now marks.old (index_in frame.entry v) }
 {
-    let i = hint::index_at(variables, hints, v);
-    if i < variables.len() {
+    let i = frame.index(v);
+    if i < frame.variables.len() {
         marks[i] = 1;
         return;
     }
 }
 
 // The variable of a branch is marked.
-fn mark_condition(variables: &[u32], hints: &[u8; 256], marks: &mut [u8; 56], t: Terminator)
-    requires { length variables.now ≤ 56 }
-    ensures { marks.new ≡ marks_after variables.now hints.now marks.old t }
+#[tactic(auto, unfolding(passes::specs::Notes::marks_on, passes::specs::Notes::marks_after))]
+fn mark_condition(frame: Frame<'_>, marks: &mut [u8; 56], t: Terminator)
+    requires { length frame.variables.now ≤ 56 }
+    ensures { marks.new ≡ marks_after frame.entry.variables.now frame.entry.hints.now marks.old t }
 {
     match t {
         Terminator::Return(_) => {}
@@ -64,13 +75,14 @@ fn mark_condition(variables: &[u32], hints: &[u8; 256], marks: &mut [u8; 56], t:
             true_block: _,
             false_block: _,
         } => match condition {
-            Operand::Var(v) => mark(variables, hints, marks, v),
+            Operand::Var(v) => mark(frame, marks, v),
             Operand::Immediate(_) => {}
         },
     }
 }
 
 // How many targets a terminator has, and their ids, 0 for none.
+#[tactic(auto, unfolding(passes::specs::Notes::count_of))]
 fn count_of(t: Terminator) -> u8
     ensures { result ≡ count_of t }
 {
@@ -85,6 +97,7 @@ fn count_of(t: Terminator) -> u8
     }
 }
 
+#[tactic(auto, unfolding(passes::specs::Notes::first_target))]
 fn first_target(t: Terminator) -> u32
     ensures { result ≡ first_target t }
 {
@@ -99,6 +112,7 @@ fn first_target(t: Terminator) -> u32
     }
 }
 
+#[tactic(auto, unfolding(passes::specs::Notes::second_target))]
 fn second_target(t: Terminator) -> u32
     ensures { result ≡ second_target t }
 {
@@ -113,24 +127,21 @@ fn second_target(t: Terminator) -> u32
     }
 }
 
-// What the terminator of block k tells, whose record begins at a place. The ids stand twice, since one list of them becomes numbers.
+// What the terminator t of block k tells. The ids stand twice, since one list of them becomes numbers.
 fn note(
-    unit: &[u8],
-    variables: &[u32],
-    hints: &[u8; 256],
+    frame: Frame<'_>,
+    k: usize,
+    t: Terminator,
     marks: &mut [u8; 56],
     counts: &mut [u8],
     targets: &mut [u32],
     numbers: &mut [u32],
-    k: usize,
-    place: u32,
 )
-    requires { (length variables.now ≤ 56) × (k < 1024) × (k < length counts.old) × (2 * k + 1 < length targets.old) × (2 * k + 1 < length numbers.old) }
-    ensures notes { Notes variables.now hints.now k (terminator_in unit.now (place + 4)) marks.old counts.old targets.old marks.new counts.new targets.new }
-    ensures notes_2 { Notes variables.now hints.now k (terminator_in unit.now (place + 4)) marks.old counts.old numbers.old marks.new counts.new numbers.new }
+    requires { (length frame.variables.now ≤ 56) × (k < 1024) × (k < length counts.old) × (2 * k + 1 < length targets.old) × (2 * k + 1 < length numbers.old) }
+    ensures notes { Notes frame.entry.variables.now frame.entry.hints.now k t marks.old counts.old targets.old marks.new counts.new targets.new }
+    ensures notes_2 { Notes frame.entry.variables.now frame.entry.hints.now k t marks.old counts.old numbers.old marks.new counts.new numbers.new }
 {
-    let t = recordparts::terminator::terminator_in(unit, place as usize + 4);
-    mark_condition(variables, hints, marks, t);
+    mark_condition(frame, marks, t);
     counts[k] = count_of(t);
     let a = first_target(t);
     let b = second_target(t);
@@ -144,26 +155,24 @@ fn note(
 pub(crate) fn note_blocks(
     unit: &[u8],
     found: Found,
-    variables: &[u32],
-    hints: &[u8; 256],
+    frame: Frame<'_>,
     endings: &[u32],
     marks: &mut [u8; 56],
     counts: &mut [u8],
     targets: &mut [u32],
     numbers: &mut [u32],
 )
-    requires unit_value { read_unit unit.now ≡ ReadUnit.Unit found }
-    requires fits { Fits variables.now × EndsAt unit.now endings.now × (length marks.old ≡ 56) }
+    requires unit_value { read_unit unit.now ≡ Ok found }
+    requires fits { Fits frame.variables.now × EndsAt unit.now endings.now × (length marks.old ≡ 56) }
     requires blocks_in_bounds { (found.blocks ≤ length endings.now) × (found.blocks ≤ length counts.old) × (2 * found.blocks ≤ length targets.old) × (2 * found.blocks ≤ length numbers.old) }
-    ensures noted { Noted (blocks_of (parse unit.now)) variables.now marks.old counts.old targets.old marks.new counts.new targets.new }
-    ensures noted_2 { Noted (blocks_of (parse unit.now)) variables.now marks.old counts.old numbers.old marks.new counts.new numbers.new }
+    ensures noted { Noted (blocks_of (parse unit.now)) frame.entry.variables.now marks.old counts.old targets.old marks.new counts.new targets.new }
+    ensures noted_2 { Noted (blocks_of (parse unit.now)) frame.entry.variables.now marks.old counts.old numbers.old marks.new counts.new numbers.new }
 {
     let n = found.blocks as usize;
     let mut k = 0;
     while k < n {
-        note(
-            unit, variables, hints, marks, counts, targets, numbers, k, endings[k],
-        );
+        let t = terminator_in(unit, endings[k] as usize + 4);
+        note(frame, k, t, marks, counts, targets, numbers);
         k += 1;
     }
 }

@@ -3,18 +3,22 @@
 
 mod compile;
 mod context;
+mod links;
 mod measure;
+mod tables;
 mod write;
 
-ghost use Rattle.std.specs.Prelude.{◌≡◌, pos, ◌≤◌, length};
+ghost use Rattle.std.specs.Prelude.{◌≡◌, pos, length};
 ghost use Rattle.unitfile.specs.Unit.{parse};
 ghost use Rattle.survey.specs.Surveyed.{blocks_of};
-ghost use Rattle.passes.specs.Stages.{Spacious};
 ghost use Rattle.tracepoint.specs.Compile.{told, refusal_of, reason_refusal, lowering_of, compile_answer, compile_code, compile_relocs};
 ghost use Rattle.tracepoint.specs.Answers.{Answers};
+ghost use Rattle.tracepoint.specs.Faults.{of_survey, of_measure, of_jumps};
+ghost use Rattle.tracepoint.specs.Tables.{Holds};
 
+use jumps::Astray;
 use lower::Reason;
-use survey::Survey;
+use tables::Tables;
 use wire::refusal::Refusal;
 
 // Why a unit is not compiled.
@@ -29,11 +33,38 @@ pub enum Fault {
     RelocRoom(u32),
 }
 
-// The slots and the relocations, or the refusal.
-#[derive(Drop)]
-pub enum Compiled {
-    Done(u32, u32),
-    Refused(Fault),
+// ---- the faults of the passes
+
+#[tactic(auto, unfolding(crate::specs::Faults::of_survey))]
+impl From<survey::Fault> for Fault {
+    ghost from_gives = { λ f e. e ≡ of_survey f };
+
+    fn from(f: survey::Fault) -> Fault {
+        match f {
+            survey::Fault::Reading(reading) => Fault::Reading(reading),
+            survey::Fault::TooMany(place) => Fault::Variables(place),
+        }
+    }
+}
+
+impl From<(usize, Reason)> for Fault {
+    ghost from_gives = { λ f e. e ≡ of_measure f };
+
+    fn from((place, reason): (usize, Reason)) -> Fault {
+        Fault::Instruction(place, reason)
+    }
+}
+
+#[tactic(auto, unfolding(crate::specs::Faults::of_jumps))]
+impl From<Astray> for Fault {
+    ghost from_gives = { λ f e. e ≡ of_jumps f };
+
+    fn from(f: Astray) -> Fault {
+        match f {
+            Astray::NoTarget(place, id) => Fault::NoTarget(place, id),
+            Astray::TooFar(place, id) => Fault::TooFar(place, id),
+        }
+    }
 }
 
 // ---- refusals
@@ -48,169 +79,86 @@ fn told(number: u8, place: usize, value: i64) -> Refusal
     }
 }
 
-fn told_number(number: u8, place: usize, value: u32) -> Refusal
-    ensures { result ≡ told number place (pos value) }
-{
-    told(number, place, value as i64)
-}
-
+#[tactic(auto, unfolding(crate::specs::Compile::reason_refusal))]
 fn reason_refusal(place: usize, reason: Reason) -> Refusal
     ensures { result ≡ reason_refusal place reason }
 {
     match reason {
-        Reason::Count(n) => told_number(11, place, n as u32),
+        Reason::Count(n) => told(11, place, i64::from(n)),
         Reason::Immediate(z) => told(12, place, z),
-        Reason::Offset(z) => told(13, place, z as i64),
-        Reason::LoadSize(n) => told_number(14, place, n as u32),
-        Reason::StoreSize(n) => told_number(15, place, n as u32),
-        Reason::Helper16 => told_number(16, place, 16),
-        Reason::Helper(id) => told_number(17, place, id),
-        Reason::NoCell(v) => told_number(20, place, v),
+        Reason::Offset(z) => told(13, place, i64::from(z)),
+        Reason::LoadSize(n) => told(14, place, i64::from(n)),
+        Reason::StoreSize(n) => told(15, place, i64::from(n)),
+        Reason::Helper16 => told(16, place, 16),
+        Reason::Helper(id) => told(17, place, i64::from(id)),
+        Reason::NoCell(v) => told(20, place, i64::from(v)),
     }
 }
 
-// 01's number, place and value of each fault.
+// 01's number, place and value of each fault. A function and no `From`, since a reason needs its place beside it and callers name this one.
+#[tactic(auto, unfolding(crate::specs::Compile::refusal_of))]
 pub fn refusal(f: Fault) -> Refusal
     ensures { result ≡ refusal_of f }
 {
     match f {
         Fault::Reading(g) => record::refusal(g),
-        Fault::Variables(place) => told_number(10, place, 57),
+        Fault::Variables(place) => told(10, place, 57),
         Fault::Instruction(place, reason) => reason_refusal(place, reason),
-        Fault::NoTarget(place, id) => told_number(18, place, id),
-        Fault::TooFar(place, id) => told_number(19, place, id),
-        Fault::CodeRoom(needed) => told_number(21, 0, needed),
-        Fault::RelocRoom(needed) => told_number(22, 0, needed),
+        Fault::NoTarget(place, id) => told(18, place, i64::from(id)),
+        Fault::TooFar(place, id) => told(19, place, i64::from(id)),
+        Fault::CodeRoom(needed) => told(21, 0, i64::from(needed)),
+        Fault::RelocRoom(needed) => told(22, 0, i64::from(needed)),
     }
 }
 
 // ---- a unit's bytes to code and relocations
 
-// Over lent tables that hold the unit's blocks.
-fn compile_in(
+// Over tables that hold the unit's blocks.
+fn compile_with<const BLOCKS: usize, const TARGETS: usize, const EDGES: usize>(
     unit: &[u8],
-    ids: &mut [u32],
-    endings: &mut [u32],
-    counts: &mut [u8],
-    named: &mut [u32],
-    numbers: &mut [u32],
-    emitted: &mut [u8],
-    edges: &mut [u32],
     code: &mut [u8],
     relocs: &mut [u32],
-) -> Compiled
-    requires { Spacious (length (blocks_of (parse unit.now))) (length ids.old) (length endings.old) (length counts.old) (length named.old) (length numbers.old) (length emitted.old) (length edges.old) }
+) -> Result<(u32, u32), Fault>
+    requires { Holds (length (blocks_of (parse unit.now))) BLOCKS TARGETS EDGES }
     ensures { Answers (lowering_of (parse unit.now)) code.old relocs.old result code.new relocs.new }
 {
     let mut variables = [0u32; 56];
-    match survey::survey_unit(unit, &mut variables, ids, endings) {
-        Survey::Refused(f) => Compiled::Refused(Fault::Reading(f)),
-        Survey::TooMany(place) => Compiled::Refused(Fault::Variables(place)),
-        Survey::Unit(found, n) => compile::compile_surveyed(
-            unit,
-            found,
-            &variables[0..n],
-            ids,
-            endings,
-            counts,
-            named,
-            numbers,
-            emitted,
-            edges,
-            code,
-            relocs,
-        ),
-    }
-}
-
-// One block has the smallest tables, and few have small ones, since a table costs its filling.
-fn compile_one(unit: &[u8], code: &mut [u8], relocs: &mut [u32]) -> Compiled
-    requires { length (blocks_of (parse unit.now)) ≤ 1 }
-    ensures { Answers (lowering_of (parse unit.now)) code.old relocs.old result code.new relocs.new }
-{
-    let mut ids = [0u32; 1];
-    let mut endings = [0u32; 1];
-    let mut counts = [0u8; 1];
-    let mut named = [0u32; 2];
-    let mut numbers = [0u32; 2];
-    let mut emitted = [0u8; 1];
-    let mut edges = [0u32; 2];
-    compile_in(
+    let mut tables = Tables {
+        ids: [0u32; BLOCKS],
+        endings: [0u32; BLOCKS],
+        counts: [0u8; BLOCKS],
+        named: [0u32; TARGETS],
+        numbers: [0u32; TARGETS],
+        emitted: [0u8; BLOCKS],
+        edges: [0u32; EDGES],
+    };
+    let (found, n) = survey::survey_unit(
         unit,
-        &mut ids,
-        &mut endings,
-        &mut counts,
-        &mut named,
-        &mut numbers,
-        &mut emitted,
-        &mut edges,
-        code,
-        relocs,
-    )
-}
-
-fn compile_few(unit: &[u8], code: &mut [u8], relocs: &mut [u32]) -> Compiled
-    requires { length (blocks_of (parse unit.now)) ≤ 16 }
-    ensures { Answers (lowering_of (parse unit.now)) code.old relocs.old result code.new relocs.new }
-{
-    let mut ids = [0u32; 16];
-    let mut endings = [0u32; 16];
-    let mut counts = [0u8; 16];
-    let mut named = [0u32; 32];
-    let mut numbers = [0u32; 32];
-    let mut emitted = [0u8; 16];
-    let mut edges = [0u32; 17];
-    compile_in(
-        unit,
-        &mut ids,
-        &mut endings,
-        &mut counts,
-        &mut named,
-        &mut numbers,
-        &mut emitted,
-        &mut edges,
-        code,
-        relocs,
-    )
-}
-
-fn compile_many(unit: &[u8], code: &mut [u8], relocs: &mut [u32]) -> Compiled
-    ensures { Answers (lowering_of (parse unit.now)) code.old relocs.old result code.new relocs.new }
-{
-    let mut ids = [0u32; 1024];
-    let mut endings = [0u32; 1024];
-    let mut counts = [0u8; 1024];
-    let mut named = [0u32; 2048];
-    let mut numbers = [0u32; 2048];
-    let mut emitted = [0u8; 1024];
-    let mut edges = [0u32; 1025];
-    compile_in(
-        unit,
-        &mut ids,
-        &mut endings,
-        &mut counts,
-        &mut named,
-        &mut numbers,
-        &mut emitted,
-        &mut edges,
-        code,
-        relocs,
-    )
+        &mut variables,
+        &mut tables.ids,
+        &mut tables.endings,
+    )?;
+    compile::compile_surveyed(unit, found, &variables[0..n], &mut tables, code, relocs)
 }
 
 // The code fills the front of its buffer, the relocations' pairs of byte offset and map number that of theirs; a refused call changes neither.
-pub fn compile_tracepoint(unit: &[u8], code: &mut [u8], relocs: &mut [u32]) -> Compiled
+#[tactic(auto, unfolding(crate::specs::Compile::compile_answer, crate::specs::Compile::compile_code, crate::specs::Compile::compile_relocs))]
+pub fn compile_tracepoint(
+    unit: &[u8],
+    code: &mut [u8],
+    relocs: &mut [u32],
+) -> Result<(u32, u32), Fault>
     ensures value { result ≡ compile_answer unit.now (length code.old) (length relocs.old) }
     ensures code_after { code.new ≡ compile_code unit.now code.old (length relocs.old) }
     ensures relocs_after { relocs.new ≡ compile_relocs unit.now (length code.old) relocs.old }
 {
-    // where a unit's head counts its blocks
+    // where a unit's head counts its blocks; a table costs its filling, so one block has the smallest, and few have small ones
     let blocks = wire::get_u32(unit, 8);
     if blocks <= 1 {
-        return compile_one(unit, code, relocs);
+        return compile_with::<1, 2, 2>(unit, code, relocs);
     }
     if blocks <= 16 {
-        return compile_few(unit, code, relocs);
+        return compile_with::<16, 32, 17>(unit, code, relocs);
     }
-    compile_many(unit, code, relocs)
+    compile_with::<1024, 2048, 1025>(unit, code, relocs)
 }

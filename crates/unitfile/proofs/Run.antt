@@ -16,11 +16,10 @@ use Rattle.record.specs.declared.Record.TheVariants as R
 use Rattle.record.specs.declared.Due.{Due}
 use Rattle.record.specs.declared.Due.TheVariants as Du
 use Rattle.record.specs.declared.Fault.{Fault}
-use Rattle.record.specs.declared.Read.{Read}
-use Rattle.record.specs.declared.Read.TheVariants as Re
 use Rattle.unitfile.specs.Records.{Cursor, Step, go, end, stop, after, on_record, next_record, Placed, Records, records, refused, cons, on_step, up_to, records_from}
 use Rattle.record.proofs.RecordLaws.{Came, Taken, record_taken}
 use Rattle.opening.proofs.Choice.{pick_ind}
+use Rattle.std.specs.Prelude.{Err, Ok, Result}
 
 -- ---- one step
 
@@ -69,15 +68,15 @@ module _ (b : List ℕ) (maps : ℕ) (c : Cursor) where
   -- a step goes on by the record that was read
   record ReadOn (due : Due) (r : Record) (d : Cursor) : Type 0 where
     next : ℕ
-    read : read_record b c.at due maps ≡ Re.Record r next
+    read : read_record b c.at due maps ≡ Ok (r, next)
     to : d ≡ after c (kind_of r) next
 
-  read_on : (due : Due) (x : Read) → read_record b c.at due maps ≡ x → (r : Record) (d : Cursor) → on_record c x ≡ go r d → ReadOn due r d
+  read_on : (due : Due) (x : Result (Record × ℕ) Fault) → read_record b c.at due maps ≡ x → (r : Record) (d : Cursor) → on_record c x ≡ go r d → ReadOn due r d
   unfolding on_record
-  read_on due (Re.Record q next) h r d e =
+  read_on due (Ok (q, next)) h r d e =
       let z : q ≡ r = cc in
-      record { next = next; read = h ∙ ap (λ (x : Record). Re.Record x next) z; to = cc }
-  read_on due (Re.Refused f) h r d e = let z : ◌≡◌ {A = ℕ} 0 1 = cc in absurd (omega arith)
+      record { next = next; read = h ∙ ap (λ (x : Record). Ok (x, next)) z; to = cc }
+  read_on due (Err f) h r d e = let z : ◌≡◌ {A = ℕ} 0 1 = cc in absurd (omega arith)
 
   after_at : (r : Record) (next : ℕ) → (after c (kind_of r) next).at ≡ next
   unfolding after kind_of
@@ -144,10 +143,10 @@ module _ (b : List ℕ) (maps : ℕ) (c : Cursor) where
   abbrev Ends : Step → Type 0
   Ends x = x ≡ end → Ended b c
 
-  no_end : (x : Read) → Ends (on_record c x)
+  no_end : (x : Result (Record × ℕ) Fault) → Ends (on_record c x)
   unfolding on_record
-  no_end (Re.Record r next) e = let z : ◌≡◌ {A = ℕ} 0 1 = cc in absurd (omega arith)
-  no_end (Re.Refused f) e = let z : ◌≡◌ {A = ℕ} 0 1 = cc in absurd (omega arith)
+  no_end (Ok (r, next)) e = let z : ◌≡◌ {A = ℕ} 0 1 = cc in absurd (omega arith)
+  no_end (Err f) e = let z : ◌≡◌ {A = ℕ} 0 1 = cc in absurd (omega arith)
 
   pub ended : next_record b maps c ≡ end → Ended b c
   unfolding next_record

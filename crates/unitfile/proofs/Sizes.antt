@@ -22,23 +22,13 @@ use Rattle.record.specs.Terminator.{returning, branching, terminator_at, termina
 use Rattle.record.specs.Payload.{head_in, head_ok, of_instruction, of_terminator, payload_at}
 use Rattle.record.specs.declared.Record.{Record}
 use Rattle.record.specs.declared.Record.TheVariants as R
-use Rattle.operand.specs.declared.ReadOperand.{ReadOperand}
-use Rattle.operand.specs.declared.ReadOperand.TheVariants as O
-use Rattle.operand.specs.declared.ReadOperands.{ReadOperands}
-use Rattle.operand.specs.declared.ReadOperands.TheVariants as L
-use Rattle.opcode.specs.declared.ReadOpcode.{ReadOpcode}
-use Rattle.opcode.specs.declared.ReadOpcode.TheVariants as C
-use Rattle.record.specs.declared.instruction.ReadInstruction.{ReadInstruction}
-use Rattle.record.specs.declared.instruction.ReadInstruction.TheVariants as I
-use Rattle.record.specs.declared.terminator.ReadTerminator.{ReadTerminator}
-use Rattle.record.specs.declared.terminator.ReadTerminator.TheVariants as T
-use Rattle.record.specs.declared.payload.Payload.{Payload}
-use Rattle.record.specs.declared.payload.Payload.TheVariants as P
 use Rattle.opcode.proofs.Opcodes.{both_true}
 use Rattle.record.proofs.Instructions.{right_size}
 use Rattle.unitfile.specs.Records.{Cursor, go, Placed, records, next_record, records_from}
 use Rattle.opening.proofs.Choice.{pick_ind}
 use Rattle.unitfile.proofs.Run.{taken, ended, came, came_end}
+use Rattle.ir.specs.declared.Opcode.{Opcode}
+use Rattle.std.specs.Prelude.{None, Option, Some}
 
 unfoldable pub payload_size : Record → ℕ
 payload_size (R.Head h) = 8
@@ -61,12 +51,12 @@ one_pushed l o h =
     omega arith
 
 module _ (b : List ℕ) where
-  on_one : (k : ℕ) (l : Operands) (i : ℕ) (x : ReadOperand) (m : Operands) → ((o : Operand) → x ≡ O.Is o → operands_at (pushed l o) b (i + 9) k ≡ L.Is m → length (list_of m) ≡ length (list_of l) + suc k) → on_operand x (λ o. operands_at (pushed l o) b (i + 9) k) ≡ L.Is m → length (list_of m) ≡ length (list_of l) + suc k
+  on_one : (k : ℕ) (l : Operands) (i : ℕ) (x : Option Operand) (m : Operands) → ((o : Operand) → x ≡ Some o → operands_at (pushed l o) b (i + 9) k ≡ Some m → length (list_of m) ≡ length (list_of l) + suc k) → on_operand x (λ o. operands_at (pushed l o) b (i + 9) k) ≡ Some m → length (list_of m) ≡ length (list_of l) + suc k
   unfolding on_operand
-  on_one k l i (O.Is o) m h e = h o refl e
-  on_one k l i O.Broken m h e = let z : ◌≡◌ {A = ℕ} 0 1 = cc in absurd (omega arith)
+  on_one k l i (Some o) m h e = h o refl e
+  on_one k l i None m h e = let z : ◌≡◌ {A = ℕ} 0 1 = cc in absurd (omega arith)
 
-  operands_count : (k : ℕ) (l : Operands) (i : ℕ) (m : Operands) → length (list_of l) + k ≤ 8 → operands_at l b i k ≡ L.Is m → length (list_of m) ≡ length (list_of l) + k
+  operands_count : (k : ℕ) (l : Operands) (i : ℕ) (m : Operands) → length (list_of l) + k ≤ 8 → operands_at l b i k ≡ Some m → length (list_of m) ≡ length (list_of l) + k
   unfolding operands_at
   operands_count zero l i m h e =
       let z : l ≡ m = cc in
@@ -82,19 +72,19 @@ module _ (b : List ℕ) where
 
 -- ---- instructions and terminators
 
-joined_operands : (result : ℕ) (x : ReadOpcode) (y : ReadOperands) (i : Instruction) → joined result x y ≡ I.Is i → y ≡ L.Is i.operands
+joined_operands : (result : ℕ) (x : Option Opcode) (y : Option Operands) (i : Instruction) → joined result x y ≡ Some i → y ≡ Some i.operands
 unfolding joined
-joined_operands result (C.Is o) (L.Is l) i e =
+joined_operands result (Some o) (Some l) i e =
     let z : record { result = result; opcode = o; operands = l } ≡ i = cc in
-    ap (λ (x : Instruction). L.Is x.operands) z
-joined_operands result (C.Is o) L.Broken i e = let z : ◌≡◌ {A = ℕ} 0 1 = cc in absurd (omega arith)
-joined_operands result C.Broken (L.Is l) i e = let z : ◌≡◌ {A = ℕ} 0 1 = cc in absurd (omega arith)
-joined_operands result C.Broken L.Broken i e = let z : ◌≡◌ {A = ℕ} 0 1 = cc in absurd (omega arith)
+    ap (λ (x : Instruction). Some x.operands) z
+joined_operands result (Some o) None i e = let z : ◌≡◌ {A = ℕ} 0 1 = cc in absurd (omega arith)
+joined_operands result None (Some l) i e = let z : ◌≡◌ {A = ℕ} 0 1 = cc in absurd (omega arith)
+joined_operands result None None i e = let z : ◌≡◌ {A = ℕ} 0 1 = cc in absurd (omega arith)
 
-instruction_size : (b : List ℕ) (at len maps : ℕ) (i : Instruction) → instruction_at b at len maps ≡ I.Is i → len ≡ 16 + 9 * length (list_of i.operands)
+instruction_size : (b : List ℕ) (at len maps : ℕ) (i : Instruction) → instruction_at b at len maps ≡ Some i → len ≡ 16 + 9 * length (list_of i.operands)
 unfolding instruction_at sized count_in list_of
 instruction_size b at len maps i =
-    pick_ind (λ (x : ReadInstruction). x ≡ I.Is i → len ≡ 16 + 9 * length (list_of i.operands)) (sized b at len) _ _
+    pick_ind (λ (x : Option Instruction). x ≡ Some i → len ≡ 16 + 9 * length (list_of i.operands)) (sized b at len) _ _
     (λ s e.
     let long = both_true (leb 16 len) _ s in
     let few = leb-true (byte_at b (at + 6)) 8 (both_true (leb (byte_at b (at + 6)) 8) _ long.1).0 in
@@ -102,24 +92,24 @@ instruction_size b at len maps i =
     omega (arith, right_size b at len s))
     (λ s e. let z : ◌≡◌ {A = ℕ} 0 1 = cc in absurd (omega arith))
 
-abbrev Ends : ℕ → ReadTerminator → Type 0
-Ends len x = (t : Terminator) → x ≡ T.Is t → len ≡ terminator_size t
+abbrev Ends : ℕ → Option Terminator → Type 0
+Ends len x = (t : Terminator) → x ≡ Some t → len ≡ terminator_size t
 
-broken_ends : (len : ℕ) → Ends len T.Broken
+broken_ends : (len : ℕ) → Ends len None
 broken_ends len t e = let z : ◌≡◌ {A = ℕ} 0 1 = cc in absurd (omega arith)
 
-is_ends : (len : ℕ) (u : Terminator) → len ≡ terminator_size u → Ends len (T.Is u)
+is_ends : (len : ℕ) (u : Terminator) → len ≡ terminator_size u → Ends len (Some u)
 is_ends len u h t e = let z : u ≡ t = cc in h ∙ ap terminator_size z
 
-return_ends : (len : ℕ) (x : ReadOperand) → len ≡ 10 → Ends len (returning x)
+return_ends : (len : ℕ) (x : Option Operand) → len ≡ 10 → Ends len (returning x)
 unfolding returning terminator_size
-return_ends len (O.Is o) h = is_ends len _ h
-return_ends len O.Broken h = broken_ends len
+return_ends len (Some o) h = is_ends len _ h
+return_ends len None h = broken_ends len
 
-branch_ends : (len : ℕ) (x : ReadOperand) (to other : ℕ) → len ≡ 18 → Ends len (branching x to other)
+branch_ends : (len : ℕ) (x : Option Operand) (to other : ℕ) → len ≡ 18 → Ends len (branching x to other)
 unfolding branching terminator_size
-branch_ends len (O.Is o) to other h = is_ends len _ h
-branch_ends len O.Broken to other h = broken_ends len
+branch_ends len (Some o) to other h = is_ends len _ h
+branch_ends len None to other h = broken_ends len
 
 terminator_size_lem : (b : List ℕ) (at len : ℕ) → Ends len (terminator_at b at len)
 unfolding terminator_at terminator_size
@@ -134,24 +124,24 @@ terminator_size_lem b at len =
 
 -- ---- payloads
 
-abbrev Holds : ℕ → Payload → Type 0
-Holds len x = (r : Record) → x ≡ P.Is r → len ≡ payload_size r
+abbrev Holds : ℕ → Option Record → Type 0
+Holds len x = (r : Record) → x ≡ Some r → len ≡ payload_size r
 
-broken_holds : (len : ℕ) → Holds len P.Broken
+broken_holds : (len : ℕ) → Holds len None
 broken_holds len r e = let z : ◌≡◌ {A = ℕ} 0 1 = cc in absurd (omega arith)
 
-is_holds : (len : ℕ) (q : Record) → len ≡ payload_size q → Holds len (P.Is q)
+is_holds : (len : ℕ) (q : Record) → len ≡ payload_size q → Holds len (Some q)
 is_holds len q h r e = let z : q ≡ r = cc in h ∙ ap payload_size z
 
-instruction_holds : (len : ℕ) (x : ReadInstruction) → ((i : Instruction) → x ≡ I.Is i → len ≡ 16 + 9 * length (list_of i.operands)) → Holds len (of_instruction x)
+instruction_holds : (len : ℕ) (x : Option Instruction) → ((i : Instruction) → x ≡ Some i → len ≡ 16 + 9 * length (list_of i.operands)) → Holds len (of_instruction x)
 unfolding of_instruction payload_size
-instruction_holds len (I.Is i) h = is_holds len _ (h i refl)
-instruction_holds len I.Broken h = broken_holds len
+instruction_holds len (Some i) h = is_holds len _ (h i refl)
+instruction_holds len None h = broken_holds len
 
-terminator_holds : (len : ℕ) (x : ReadTerminator) → Ends len x → Holds len (of_terminator x)
+terminator_holds : (len : ℕ) (x : Option Terminator) → Ends len x → Holds len (of_terminator x)
 unfolding of_terminator payload_size
-terminator_holds len (T.Is t) h = is_holds len _ (h t refl)
-terminator_holds len T.Broken h = broken_holds len
+terminator_holds len (Some t) h = is_holds len _ (h t refl)
+terminator_holds len None h = broken_holds len
 
 payload_size_lem : (kind : ℕ) (b : List ℕ) (at len maps : ℕ) → Holds len (payload_at kind b at len maps)
 unfolding payload_at payload_size

@@ -9,39 +9,38 @@ use Rattle.record.specs.declared.Head.{Head}
 use Rattle.unitfile.specs.Unit.{UnitIr, parsed, refused, none, group, parse, read_unit, Decided, refusal, whole_unit}
 use Rattle.unitfile.specs.MapName.{NameInside}
 use Rattle.unitfile.specs.declared.Found.{Found}
-use Rattle.unitfile.specs.declared.ReadUnit.{ReadUnit}
-use Rattle.unitfile.specs.declared.ReadUnit.TheVariants as U
 use Rattle.opening.specs.Names.{Distinct, first_record}
 use Rattle.opening.specs.Places.{head_of}
-use Rattle.opening.specs.declared.HeadAt.TheVariants as H
 use Rattle.opening.proofs.MapLaws.{is_map, names_distinct}
 use Rattle.unitfile.proofs.Whole.{Whole, whole, refused_whole, name_place}
 use Rattle.unitfile.proofs.Units.{unit, unit_of}
+use Rattle.std.specs.Prelude.{Err, Ok, Result}
+use Rattle.wire.proofs.Pairs.{ok_parts}
 
-decided_by : (b : List ℕ) (x : ReadUnit) → read_unit b ≡ x → Decided b
-decided_by b (U.Unit found) e = let u = unit_of b found e in whole_unit found (unit b found e) e u.parsed_as u.names u.blocks
-decided_by b (U.Refused f) e = refusal f e (refused_whole b f e)
+decided_by : (b : List ℕ) (x : Result Found Fault) → read_unit b ≡ x → Decided b
+decided_by b (Ok found) e = let u = unit_of b found e in whole_unit found (unit b found e) e u.parsed_as u.names u.blocks
+decided_by b (Err f) e = refusal f e (refused_whole b f e)
 
 pub decided : (b : List ℕ) → Decided b
 decided b = decided_by b (read_unit b) refl
 
 -- the reader refuses exactly what the definition refuses, for the same reason
-pub refused_alike : (b : List ℕ) (f : Fault) → (read_unit b ≡ U.Refused f → parse b ≡ refused f) × (parse b ≡ refused f → read_unit b ≡ U.Refused f)
+pub refused_alike : (b : List ℕ) (f : Fault) → (read_unit b ≡ Err f → parse b ≡ refused f) × (parse b ≡ refused f → read_unit b ≡ Err f)
 refused_alike b f = (refused_whole b f, go (decided b))
   where
-    go : Decided b → parse b ≡ refused f → read_unit b ≡ U.Refused f
+    go : Decided b → parse b ≡ refused f → read_unit b ≡ Err f
     go (refusal g r p) e =
         let q = sym p ∙ e in
-        let z : g ≡ f = cc in r ∙ ap U.Refused z
+        let z : g ≡ f = cc in r ∙ ap Err z
     go (whole_unit found u r p n m) e =
         let q = sym p ∙ e in
         let z : ◌≡◌ {A = ℕ} 0 1 = cc in absurd (omega arith)
 
 -- a unit has as many maps and blocks as its head says
-pub head_counts : (b : List ℕ) (u : UnitIr) (h : Head) (first : ℕ) → parse b ≡ parsed u → head_of (first_record b) ≡ H.Is h first → (length u.names ≡ h.maps) × (length u.blocks ≡ h.blocks)
+pub head_counts : (b : List ℕ) (u : UnitIr) (h : Head) (first : ℕ) → parse b ≡ parsed u → head_of (first_record b) ≡ Ok (h, first) → (length u.names ≡ h.maps) × (length u.blocks ≡ h.blocks)
 head_counts b u h first = go (decided b)
   where
-    go : Decided b → parse b ≡ parsed u → head_of (first_record b) ≡ H.Is h first → (length u.names ≡ h.maps) × (length u.blocks ≡ h.blocks)
+    go : Decided b → parse b ≡ parsed u → head_of (first_record b) ≡ Ok (h, first) → (length u.names ≡ h.maps) × (length u.blocks ≡ h.blocks)
     go (refusal f r p) e i =
         let q = sym p ∙ e in
         let z : ◌≡◌ {A = ℕ} 0 1 = cc in absurd (omega arith)
@@ -50,7 +49,7 @@ head_counts b u h first = go (decided b)
         let q = sym p ∙ e in
         let z : v ≡ u = cc in
         let j = sym w.head ∙ i in
-        let y : w.opening ≡ h = cc in
+        let y : w.opening ≡ h = (ok_parts j).0 in
         (ap (λ (x : UnitIr). length x.names) (sym z) ∙ n ∙ sym w.maps_are ∙ ap (λ (x : Head). x.maps) y, ap (λ (x : UnitIr). length x.blocks) (sym z) ∙ m ∙ sym w.blocks_are ∙ ap (λ (x : Head). x.blocks) y)
 
 -- ---- a map's name

@@ -10,11 +10,11 @@ use Rattle.record.proofs.RecordLaws.{head_bounds, record_taken}
 use Rattle.unitfile.specs.Records.{records, at_block, records_from}
 use Rattle.unitfile.specs.Unit.{UnitIr, parsed, none, group, parse, read_unit}
 use Rattle.unitfile.specs.declared.Found.{Found}
-use Rattle.unitfile.specs.declared.ReadUnit.TheVariants as U
 use Rattle.opening.proofs.Heads.{first_is}
 use Rattle.opening.proofs.MapLaws.{names_within}
 use Rattle.unitfile.proofs.Blocks.{flat, flat_group, group_count}
 use Rattle.unitfile.proofs.Whole.{Whole, whole, names_all}
+use Rattle.std.specs.Prelude.{Ok}
 
 -- the unit is what the bytes are; its records from the first block on are its blocks written out; its counts are those that were found
 pub record UnitOf (b : List ℕ) (found : Found) (u : UnitIr) : Type 0 where
@@ -48,9 +48,9 @@ module _ (b : List ℕ) (found : Found) where
         short = f.short;
       }
 
-  pub unit : read_unit b ≡ U.Unit found → UnitIr
+  pub unit : read_unit b ≡ Ok found → UnitIr
   unit e = unit_found (whole b found e)
 
-  pub unit_of : (e : read_unit b ≡ U.Unit found) → UnitOf b found (unit e)
+  pub unit_of : (e : read_unit b ≡ Ok found) → UnitOf b found (unit e)
   unfolding unit
   unit_of e = found_unit (whole b found e)

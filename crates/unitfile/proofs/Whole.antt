@@ -9,9 +9,6 @@ use Rattle.record.specs.declared.Head.{Head}
 use Rattle.record.specs.declared.Fault.{Fault}
 use Rattle.opening.specs.Names.{part, named, names_at, first_record, Opened, opened, shut, open_unit}
 use Rattle.opening.specs.Places.{head_of, map_from, body_of}
-use Rattle.opening.specs.declared.MapAt.TheVariants as M
-use Rattle.opening.specs.declared.HeadAt.TheVariants as H
-use Rattle.opening.specs.declared.BodyAt.TheVariants as B
 use Rattle.record.specs.Frame.{next_at}
 use Rattle.opening.proofs.Heads.{opened_at, after_head}
 use Rattle.opening.proofs.MapLaws.{is_map, read_one, part_length, names_count, NameAt, name_at}
@@ -21,8 +18,9 @@ use Rattle.unitfile.specs.Unit.{Parsed, parsed, refused, none, group, with_recor
 use Rattle.unitfile.specs.Inner.{found_with, found_in}
 use Rattle.unitfile.specs.MapName.{name_of}
 use Rattle.unitfile.specs.declared.Found.{Found}
-use Rattle.unitfile.specs.declared.ReadUnit.TheVariants as U
 use Rattle.unitfile.proofs.Blocks.{group_count}
+use Rattle.std.specs.Prelude.{Err, Ok}
+use Rattle.wire.proofs.Pairs.{ok_parts}
 
 -- ---- the blocks
 
@@ -31,18 +29,17 @@ unfolding found_with cons
 found_cons found p (records l) = refl
 found_cons found p (rs.refused f) = refl
 
-pub found_body : (b : List ℕ) (o : Opened) (h : Head) (at : ℕ) → body_of o ≡ B.Is h at → found_in b o ≡ found_with (record { maps = h.maps; blocks = h.blocks; body = at }) (records_from b h.maps (at_block at h.blocks))
+pub found_body : (b : List ℕ) (o : Opened) (h : Head) (at : ℕ) → body_of o ≡ Ok (h, at) → found_in b o ≡ found_with (record { maps = h.maps; blocks = h.blocks; body = at }) (records_from b h.maps (at_block at h.blocks))
 unfolding body_of found_in
 found_body b (opened g names to) h at e =
-    let p : g ≡ h = cc in
-    let q : to ≡ at = cc in
-    cc
+    let same = ok_parts e in
+    cc (same.0, same.1)
 found_body b (shut f) h at e = let z : ◌≡◌ {A = ℕ} 0 1 = cc in absurd (omega arith)
 
-pub found_refused : (b : List ℕ) (o : Opened) (f : Fault) → body_of o ≡ B.Refused f → found_in b o ≡ U.Refused f
+pub found_refused : (b : List ℕ) (o : Opened) (f : Fault) → body_of o ≡ Err f → found_in b o ≡ Err f
 unfolding body_of found_in
 found_refused b (opened h names at) f e = let z : ◌≡◌ {A = ℕ} 0 1 = cc in absurd (omega arith)
-found_refused b (shut g) f e = let z : g ≡ f = cc in ap U.Refused z
+found_refused b (shut g) f e = let z : g ≡ f = cc in ap Err z
 
 -- ---- the counts of a unit that was opened
 
@@ -68,7 +65,7 @@ maps_end b (suc n) names at all end e =
     omega (arith, m.begins, m.ends)
 
 module _ (b : List ℕ) (h : Head) (names : List (List ℕ)) (at : ℕ) (o : open_unit b ≡ opened h names at) where
-  found_is : (l : List Placed) → records_from b h.maps (at_block at h.blocks) ≡ records l → found_of b (parsed (record { names = names; blocks = group none l })) ≡ U.Unit (record { maps = h.maps; blocks = h.blocks; body = at })
+  found_is : (l : List Placed) → records_from b h.maps (at_block at h.blocks) ≡ records l → found_of b (parsed (record { names = names; blocks = group none l })) ≡ Ok (record { maps = h.maps; blocks = h.blocks; body = at })
   unfolding found_of map_bytes
   found_is l p =
       let q = opened_at b h names at o in
@@ -103,13 +100,13 @@ pub record Whole (b : List ℕ) (found : Found) : Type 0 where
   pub first : ℕ
   pub names : List (List ℕ)
   pub list : List Placed
-  pub head : head_of (first_record b) ≡ H.Is opening first
+  pub head : head_of (first_record b) ≡ Ok (opening, first)
   pub maps : names_at b [] first found.maps ≡ named names found.body
   pub body : records_from b found.maps (at_block found.body found.blocks) ≡ records list
   pub unit : parse b ≡ parsed (record { names = names; blocks = group none list })
 
 module _ (b : List ℕ) where
-  records_by : (h : Head) (names : List (List ℕ)) (at : ℕ) → open_unit b ≡ opened h names at → (x : Records) → records_from b h.maps (at_block at h.blocks) ≡ x → (found : Found) → found_with (record { maps = h.maps; blocks = h.blocks; body = at }) x ≡ U.Unit found → Whole b found
+  records_by : (h : Head) (names : List (List ℕ)) (at : ℕ) → open_unit b ≡ opened h names at → (x : Records) → records_from b h.maps (at_block at h.blocks) ≡ x → (found : Found) → found_with (record { maps = h.maps; blocks = h.blocks; body = at }) x ≡ Ok found → Whole b found
   unfolding found_with parse on_opened with_records
   records_by h names at o (records l) p found e =
       let z : record { maps = h.maps; blocks = h.blocks; body = at } ≡ found = cc in
@@ -117,20 +114,20 @@ module _ (b : List ℕ) where
       subst (Whole b) z (record { opening = h; maps_are = refl; blocks_are = refl; first = q.first; names = names; list = l; head = q.head; maps = q.maps; body = p; unit = rw (o, p) })
   records_by h names at o (rs.refused f) p found e = let z : ◌≡◌ {A = ℕ} 0 1 = cc in absurd (omega arith)
 
-  whole_by : (o : Opened) → open_unit b ≡ o → (found : Found) → found_in b o ≡ U.Unit found → Whole b found
+  whole_by : (o : Opened) → open_unit b ≡ o → (found : Found) → found_in b o ≡ Ok found → Whole b found
   unfolding found_in
   whole_by (opened h names at) p found e = records_by h names at p _ refl found e
   whole_by (shut f) p found e = let z : ◌≡◌ {A = ℕ} 0 1 = cc in absurd (omega arith)
 
-  pub whole : (found : Found) → read_unit b ≡ U.Unit found → Whole b found
+  pub whole : (found : Found) → read_unit b ≡ Ok found → Whole b found
   whole found e = whole_by (open_unit b) refl found (sym (read_is b) ∙ e)
 
-  refused_by : (p : Parsed) (f : Fault) → found_of b p ≡ U.Refused f → p ≡ refused f
+  refused_by : (p : Parsed) (f : Fault) → found_of b p ≡ Err f → p ≡ refused f
   unfolding found_of
   refused_by (parsed u) f e = let z : ◌≡◌ {A = ℕ} 0 1 = cc in absurd (omega arith)
   refused_by (refused g) f e = let z : g ≡ f = cc in ap refused z
 
-  pub refused_whole : (f : Fault) → read_unit b ≡ U.Refused f → parse b ≡ refused f
+  pub refused_whole : (f : Fault) → read_unit b ≡ Err f → parse b ≡ refused f
   unfolding read_unit
   refused_whole f e = refused_by (parse b) f e
 
@@ -149,18 +146,18 @@ module _ (b : List ℕ) (found : Found) (w : Whole b found) where
   name_place k h = rw (name_is k) (simp zero-add at (name_at b _ k [] w.first w.names found.body w.maps h))
 
   -- as the code finds it, from the head on
-  pub head_there : (f : Fault) → head_of (first_record b) ≡ H.Refused f → ⊥
+  pub head_there : (f : Fault) → head_of (first_record b) ≡ Err f → ⊥
   head_there f e =
       let z = sym w.head ∙ e in
       let y : ◌≡◌ {A = ℕ} 0 1 = cc in omega arith
 
-  pub name_from : (h : Head) (first k : ℕ) → head_of (first_record b) ≡ H.Is h first → k < found.maps → NameAt b first k (name_of (parse b) k)
+  pub name_from : (h : Head) (first k : ℕ) → head_of (first_record b) ≡ Ok (h, first) → k < found.maps → NameAt b first k (name_of (parse b) k)
   name_from h first k e l =
       let z = sym w.head ∙ e in
-      let y : w.first ≡ first = cc in
+      let y : w.first ≡ first = (ok_parts z).1 in
       subst (λ (x : ℕ). NameAt b x k (name_of (parse b) k)) y (name_place k l)
 
-pub name_there : {b : List ℕ} {first k : ℕ} {name : List ℕ} → NameAt b first k name → (f : Fault) → map_from b first k ≡ M.Refused f → ⊥
+pub name_there : {b : List ℕ} {first k : ℕ} {name : List ℕ} → NameAt b first k name → (f : Fault) → map_from b first k ≡ Err f → ⊥
 name_there n f e =
     let z = sym n.found ∙ e in
     let y : ◌≡◌ {A = ℕ} 0 1 = cc in omega arith

@@ -1,5 +1,5 @@
 -- The records of a unit's blocks, one after the other: per block one block record, its instructions, one terminator.
-use Rattle.std.specs.Prelude.{ℕ, zero, suc, ◌-◌, Bool, true, false, List, [], ◌∷◌, eqb, length}
+use Rattle.std.specs.Prelude.{ℕ, zero, suc, ◌-◌, Bool, true, false, List, [], ◌∷◌, eqb, length, Err, Ok, Result}
 use Rattle.wire.specs.Pick.{pick}
 use Rattle.record.specs.Payload.{kind_of}
 use Rattle.record.specs.Record.{read_record}
@@ -7,8 +7,6 @@ use Rattle.record.specs.declared.Record.{Record}
 use Rattle.record.specs.declared.Due.TheVariants as Du
 use Rattle.record.specs.declared.Fault.{Fault}
 use Rattle.record.specs.declared.Fault.TheVariants.{NotDue}
-use Rattle.record.specs.declared.Read.{Read}
-use Rattle.record.specs.declared.Read.TheVariants as Re
 
 -- where reading stands among the blocks: at which byte, how many blocks are still due, and whether one is open
 pub record Cursor : Type 0 where
@@ -35,9 +33,9 @@ unfoldable pub after : Cursor → ℕ → ℕ → Cursor
 after c kind next =
     pick (eqb kind 3) (in_block next (c.blocks - 1)) (record { at = next; blocks = c.blocks; inside = eqb kind 4 })
 
-unfoldable pub on_record : Cursor → Read → Step
-on_record c (Re.Record r next) = go r (after c (kind_of r) next)
-on_record c (Re.Refused f) = stop f
+unfoldable pub on_record : Cursor → Result (Record × ℕ) Fault → Step
+on_record c (Ok (r, next)) = go r (after c (kind_of r) next)
+on_record c (Err f) = stop f
 
 -- inside a block an instruction or its terminator is due, else a block while one is left, else the end of the bytes
 unfoldable pub next_record : List ℕ → ℕ → Cursor → Step

@@ -1,5 +1,5 @@
 -- A unit: its maps' names and its blocks.
-use Rattle.std.specs.Prelude.{◌≡◌, ℕ, ◌+◌, List, [], ◌∷◌, ◌++◌, length}
+use Rattle.std.specs.Prelude.{◌≡◌, ℕ, ◌+◌, List, [], ◌∷◌, ◌++◌, length, Err, Ok, Result}
 use Rattle.ir.specs.declared.Instruction.{Instruction}
 use Rattle.ir.specs.declared.Terminator.{Terminator}
 use Rattle.record.specs.Frame.{next_at}
@@ -7,8 +7,6 @@ use Rattle.record.specs.declared.Record.{Record}
 use Rattle.record.specs.declared.Record.TheVariants as R
 use Rattle.record.specs.declared.Fault.{Fault}
 use Rattle.unitfile.specs.declared.Found.{Found}
-use Rattle.unitfile.specs.declared.ReadUnit.{ReadUnit}
-use Rattle.unitfile.specs.declared.ReadUnit.TheVariants as U
 use Rattle.opening.specs.Names.{Opened, opened, shut, open_unit}
 use Rattle.unitfile.specs.Records.{Placed, Records, at_block, records_from}
 use Rattle.unitfile.specs.Records as rs
@@ -72,14 +70,14 @@ map_bytes [] = 0
 map_bytes (n ∷ ns) = 4 + length n + map_bytes ns
 
 -- what the whole-file reader answers: how many maps and blocks there are, and where the blocks begin, after the head and the maps
-unfoldable pub found_of : List ℕ → Parsed → ReadUnit
-found_of b (parsed u) = U.Unit (record { maps = length u.names; blocks = length u.blocks; body = next_at b 0 + map_bytes u.names })
-found_of b (refused f) = U.Refused f
+unfoldable pub found_of : List ℕ → Parsed → Result Found Fault
+found_of b (parsed u) = Ok (record { maps = length u.names; blocks = length u.blocks; body = next_at b 0 + map_bytes u.names })
+found_of b (refused f) = Err f
 
-unfoldable pub read_unit : List ℕ → ReadUnit
+unfoldable pub read_unit : List ℕ → Result Found Fault
 read_unit b = found_of b (parse b)
 
 -- every byte string is refused by the reader and by the definition alike, or it is a unit, and the reader's counts are those of its names and blocks
 pub data Decided (b : List ℕ) : Type 0 where
-  refusal : (f : Fault) → read_unit b ≡ U.Refused f → parse b ≡ refused f → Decided b
-  whole_unit : (found : Found) (u : UnitIr) → read_unit b ≡ U.Unit found → parse b ≡ parsed u → length u.names ≡ found.maps → length u.blocks ≡ found.blocks → Decided b
+  refusal : (f : Fault) → read_unit b ≡ Err f → parse b ≡ refused f → Decided b
+  whole_unit : (found : Found) (u : UnitIr) → read_unit b ≡ Ok found → parse b ≡ parsed u → length u.names ≡ found.maps → length u.blocks ≡ found.blocks → Decided b

@@ -7,7 +7,6 @@ ghost use Rattle.std.specs.Prelude.{◌≡◌};
 ghost use Rattle.unitfile.specs.Unit.{read_unit, parse};
 ghost use Rattle.unitfile.specs.MapName.{place_of, pointed, name_part, named_of};
 
-use opening::{BodyAt, HeadAt, MapAt};
 use record::Fault;
 
 // A unit that was read whole: how many maps and blocks it has, and where its blocks begin.
@@ -18,36 +17,12 @@ pub struct Found {
     pub body: usize,
 }
 
-#[derive(Drop)]
-pub enum ReadUnit {
-    Unit(Found),
-    Refused(Fault),
-}
-
-// Whether a unit has a map of a number.
-#[derive(Drop)]
-pub enum Named {
-    Named,
-    NoSuchMap,
-    Refused(Fault),
-}
-
-// Where a map's name lies: its first byte in the unit, and how many bytes it has.
-#[derive(Drop)]
-pub enum MapPlace {
-    At { start: usize, len: usize },
-    NoSuchMap,
-    Refused(Fault),
-}
-
 // The whole file, read record by record.
-pub fn read_unit(s: &[u8]) -> ReadUnit
+#[tactic(auto, using(crate::proofs::Whole::read_is, crate::proofs::Whole::found_body, crate::proofs::Whole::found_refused))]
+pub fn read_unit(s: &[u8]) -> Result<Found, Fault>
     ensures { result ≡ read_unit s.now }
 {
-    let opened = opening::open_unit(s);
-    let BodyAt::Is(head, body) = opened else {
-        return walk::refused_unit(opened);
-    };
+    let (head, body) = opening::open_unit(s)?;
     walk::read_blocks(
         s,
         Found {
@@ -58,56 +33,37 @@ pub fn read_unit(s: &[u8]) -> ReadUnit
     )
 }
 
-// Where the bytes of a map's name lie inside the unit.
-pub fn map_place(s: &[u8], map: u32) -> MapPlace
+// Where the bytes of a map's name lie inside the unit: its first byte and how many bytes it has; None where there is no such map.
+pub fn map_place(s: &[u8], map: u32) -> Result<Option<(usize, usize)>, Fault>
     ensures { result ≡ place_of s.now (parse s.now) map }
 {
-    match read_unit(s) {
-        ReadUnit::Unit(found) => {
-            if map < found.maps as u32 {
-                let HeadAt::Is(_, first) = opening::head_at(s) else {
-                    return MapPlace::NoSuchMap;
-                };
-                let MapAt::Is {
-                    start,
-                    len,
-                    next: _,
-                } = opening::map_from(s, first, map)
-                else {
-                    return MapPlace::NoSuchMap;
-                };
-                return MapPlace::At {
-                    start: start,
-                    len: len,
-                };
-            }
-            MapPlace::NoSuchMap
-        }
-        ReadUnit::Refused(f) => MapPlace::Refused(f),
+    let found = read_unit(s)?;
+    if map < found.maps as u32 {
+        let (_, first) = opening::head_at(s)?;
+        let place = opening::map_from(s, first, map)?;
+        return Ok(Some((place.start, place.len)));
     }
+    Ok(None)
 }
 
 // The part of the unit that is a map's name; no bytes for a refusal or where there is no such map.
+#[tactic(auto, unfolding(crate::specs::MapName::name_part, crate::specs::MapName::part_at))]
 pub fn map_name(s: &[u8], map: u32) -> &[u8]
     ensures { pointed result ≡ name_part s.entry map }
 {
     match map_place(s, map) {
-        MapPlace::At { start, len } => {
+        Ok(Some((start, len))) => {
             let end = start + len;
             &s[start..end]
         }
-        MapPlace::NoSuchMap => &s[0..0],
-        MapPlace::Refused(_) => &s[0..0],
+        Ok(None) => &s[0..0],
+        Err(_) => &s[0..0],
     }
 }
 
 // What tells a refusal and a missing map from an empty name.
-pub fn map_named(s: &[u8], map: u32) -> Named
+pub fn map_named(s: &[u8], map: u32) -> Result<bool, Fault>
     ensures { result ≡ named_of (parse s.now) map }
 {
-    match map_place(s, map) {
-        MapPlace::At { start: _, len: _ } => Named::Named,
-        MapPlace::NoSuchMap => Named::NoSuchMap,
-        MapPlace::Refused(f) => Named::Refused(f),
-    }
+    Ok(map_place(s, map)?.is_some())
 }

@@ -1,33 +1,24 @@
 -- The bits of a number, lowest first, as numbers below 2, with what `&`, `|` and a remainder do to each.
 use mathlib.Core.Path.{◌≡◌, refl, sym, ap, ◌∙◌}
 use Prim.Native.Nat.{ℕ, zero, suc, ◌+◌, ◌-◌, ◌*◌, ◌/◌, ◌%◌, ◌^◌, ◌≤◌, ◌<◌, min, max}
-use native.Mathlib.Nat.{pow-suc, mul_comm, div-one, zero-div, div-div-eq-div-mul, le_of_suc-le-suc, one-mul}
+use native.Mathlib.Nat.{pow-suc, le_of_suc-le-suc, one-mul}
 use native.Mathlib.Omega.{arith}
-use lib.Bits.{bit_and, bit_or, and_step, or_step, and_shr, or_shr}
+use lib.Bits.{bit_and, bit_or}
 use lib.Pow.{field, mod-mod-pow, shl_exact}
+use Rattle.std.proofs.lemmas.Nat.Bits.{bit_at_and, bit_at_or, bit_at_lowest, bit_at-suc, bit_at-zero, bit_at-pow_same, bit_at-pow_other, same_from_bits_below}
 use Rattle.wire.specs.Bit.{bit}
 
 pub bit_le : (m r : ℕ) → bit m r ≤ 1
 unfolding bit
 bit_le m r = omega arith
 
-min_mod : (q x y : ℕ) → (q * 2 + min (x % 2) (y % 2)) % 2 ≡ min (x % 2) (y % 2)
-min_mod q x y = omega arith
-
-max_mod : (q x y : ℕ) → (q * 2 + max (x % 2) (y % 2)) % 2 ≡ max (x % 2) (y % 2)
-max_mod q x y = omega arith
-
 pub bit_and_lem : (a b r : ℕ) → bit (bit_and a b) r ≡ min (bit a r) (bit b r)
 unfolding bit
-bit_and_lem a b r =
-    ap (λ (x : ℕ). x % 2) (and_shr a b r ∙ and_step (a / 2 ^ r) (b / 2 ^ r))
-    ∙ min_mod (bit_and (a / 2 ^ r / 2) (b / 2 ^ r / 2)) (a / 2 ^ r) (b / 2 ^ r)
+bit_and_lem = bit_at_and
 
 pub bit_or_lem : (a b r : ℕ) → bit (bit_or a b) r ≡ max (bit a r) (bit b r)
 unfolding bit
-bit_or_lem a b r =
-    ap (λ (x : ℕ). x % 2) (or_shr a b r ∙ or_step (a / 2 ^ r) (b / 2 ^ r))
-    ∙ max_mod (bit_or (a / 2 ^ r / 2) (b / 2 ^ r / 2)) (a / 2 ^ r) (b / 2 ^ r)
+bit_or_lem = bit_at_or
 
 -- bit r of a number is that of its remainder by a power of 2 above it
 pub low_bit : (m r k : ℕ) → r < k → bit (m % 2 ^ k) r ≡ bit m r
@@ -39,11 +30,11 @@ low_bit m r k h =
 
 pub bit_zero : (n : ℕ) → bit n 0 ≡ n % 2
 unfolding bit
-bit_zero n = ap (λ (x : ℕ). x % 2) (div-one n)
+bit_zero = bit_at_lowest
 
 pub bit_suc : (n r : ℕ) → bit n (suc r) ≡ bit (n / 2) r
 unfolding bit
-bit_suc n r = ap (λ (x : ℕ). n / x % 2) (pow-suc 2 r ∙ mul_comm (2 ^ r) 2) ∙ ap (λ (x : ℕ). x % 2) (sym (div-div-eq-div-mul n 2 (2 ^ r)))
+bit_suc = bit_at-suc
 
 -- the complement within k bits
 pub bit_not : (k m r : ℕ) → m < 2 ^ k → r < k → bit (2 ^ k - 1 - m) r ≡ 1 - bit m r
@@ -55,39 +46,25 @@ bit_not (suc k) m (suc r) lm lr =
 
 -- two masks with the same bits are the same
 pub bit_ext : (k a b : ℕ) → a < 2 ^ k → b < 2 ^ k → ((r : ℕ) → r < k → bit a r ≡ bit b r) → a ≡ b
-bit_ext zero a b la lb h = omega arith
-bit_ext (suc k) a b la lb h =
-    let e : a / 2 ≡ b / 2 =
-    bit_ext k (a / 2) (b / 2) (omega (arith, pow-suc 2 k)) (omega (arith, pow-suc 2 k)) (λ r l. sym (bit_suc a r) ∙ h (suc r) (omega arith) ∙ bit_suc b r)
-    in
-    omega (arith, e, h 0 (omega arith), bit_zero a, bit_zero b)
+unfolding bit
+bit_ext = same_from_bits_below
 
 -- 0 has no bit, so a number with one is not 0
 pub bit_of_zero : (r : ℕ) → bit 0 r ≡ 0
 unfolding bit
-bit_of_zero r = ap (λ (x : ℕ). x % 2) (zero-div (2 ^ r))
+bit_of_zero = bit_at-zero
 
 pub nonzero : (n r : ℕ) → bit n r ≡ 1 → n ≡ 0 → ⊥
 nonzero n r e z = let h : bit 0 r ≡ 1 = rw z at e in omega (arith, bit_of_zero r)
 
--- 2 ^ k has bit k and no other
-bit_pow : (k : ℕ) → bit (2 ^ k) k ≡ 1
-bit_pow zero = bit_zero 1
-bit_pow (suc k) = bit_suc (2 ^ suc k) k ∙ ap (λ (x : ℕ). bit x k) (omega (arith, pow-suc 2 k)) ∙ bit_pow k
-
-bit_pow_other : (k r : ℕ) → (r ≡ k → ⊥) → bit (2 ^ k) r ≡ 0
-bit_pow_other zero zero n = absurd (n refl)
-bit_pow_other zero (suc r) n = bit_suc 1 r ∙ bit_of_zero r
-bit_pow_other (suc k) zero n = bit_zero (2 ^ suc k) ∙ omega (arith, pow-suc 2 k)
-bit_pow_other (suc k) (suc r) n =
-    bit_suc (2 ^ suc k) r ∙ ap (λ (x : ℕ). bit x r) (omega (arith, pow-suc 2 k)) ∙ bit_pow_other k r (λ e. n (ap suc e))
-
--- so x | 2 ^ k has bit k, and the other bits of x
+-- x | 2 ^ k has bit k, and the other bits of x
 pub or_pow : (x k : ℕ) → bit (bit_or x (2 ^ k)) k ≡ 1
-or_pow x k = omega (arith, bit_or_lem x (2 ^ k) k, bit_pow k, bit_le x k)
+unfolding bit
+or_pow x k = omega (arith, bit_at_or x (2 ^ k) k, bit_at-pow_same k)
 
 pub or_pow_other : (x k r : ℕ) → (r ≡ k → ⊥) → bit (bit_or x (2 ^ k)) r ≡ bit x r
-or_pow_other x k r n = omega (arith, bit_or_lem x (2 ^ k) r, bit_pow_other k r n, bit_le x r)
+unfolding bit
+or_pow_other x k r n = omega (arith, bit_at_or x (2 ^ k) r, bit_at-pow_other k r n)
 
 pub or_keeps : (x y r : ℕ) → bit x r ≡ 1 → bit (bit_or x y) r ≡ 1
 or_keeps x y r e = omega (arith, bit_or_lem x y r, bit_le y r)

@@ -1,32 +1,26 @@
--- Whether a signed number lies in a narrower range, by the two tests of the code, once for every width.
-use mathlib.Core.Path.{◌≡◌, sym}
-use mathlib.Core.Bool.{true, false, true≢false}
-use Prim.Native.Nat.{ℕ, suc, ◌^◌}
-use lib.Dec.{ltb, leb-suc-suc}
-use lib.IntN.{ℤ, pos, negsuc}
-use lib.Signed.{mag, lt_z, le_z}
+-- Whether a signed number lies in a narrower range, once for every width.
+use mathlib.Core.Path.{◌≡◌, refl, sym}
+use mathlib.Core.Bool.{Bool, true, false}
+use Prim.Native.Nat.{◌^◌}
+use lib.Dec.{ltb}
+use lib.IntN.{ℤ}
+use lib.Signed.{mag}
 use mir.Syntax.{Width, w16, w32}
-use mir.Val.{SFits, of_z, to_z}
+use mir.Val.{SFits, of_z, to_z, hbits}
 use mir.ValLaws.{to_z-of_z}
-use borrow.Author.Tests.{le-ltb, lt-ltb, ltb-true, ltb-false}
-use native.Mathlib.Omega.{arith}
+use borrow.Author.Tests.{lt-ltb, ltb-true}
+use Rattle.std.specs.Prelude.{Result, Ok, Err}
+use Rattle.std.specs.Result.{OkIff, is_ok}
 use Rattle.wire.specs.Range.{fits16, fits32}
 
-low : (m : ℕ) (z : ℤ) → lt_z z (negsuc m) ≡ true → false ≡ ltb (mag z) (suc m)
-low m (pos n) t = absurd (true≢false (sym t))
-low m (negsuc n) t = sym (le-ltb n (suc m) (ltb-true m n t))
-
-rest : (m : ℕ) (z : ℤ) → lt_z z (negsuc m) ≡ false → le_z z (pos m) ≡ ltb (mag z) (suc m)
-rest m (pos n) t = sym (leb-suc-suc n m)
-rest m (negsuc n) t = sym (lt-ltb n (suc m) (omega (arith, ltb-false m n t)))
-
--- z is a number of the width w, as the machine holds it; the narrower range is that of a number m and of −m − 1
-module _ (w : Width) (z : ℤ) (m : ℕ) (f : SFits w z) where
-  pub below : lt_z (to_z w (of_z w z)) (negsuc m) ≡ true → false ≡ ltb (mag z) (suc m)
-  below t = low m z (rw (to_z-of_z w z f) at t)
-
-  pub not_below : lt_z (to_z w (of_z w z)) (negsuc m) ≡ false → le_z (to_z w (of_z w z)) (pos m) ≡ ltb (mag z) (suc m)
-  not_below t = rw (to_z-of_z w z f) (rest m z (rw (to_z-of_z w z f) at t))
+-- what `try_from` tells, from a number z of the width v to the narrower w; z has passed through an argument
+pub told : (v w : Width) (z : ℤ) {E : Type 0} (r : Result ℤ E) (y : ℤ) → SFits v z → OkIff r (SFits w (to_z v (of_z v z))) y → is_ok r ≡ ltb (mag z) (2 ^ hbits w)
+told v w z (Ok x) y f h = let g : SFits w z = rw (to_z-of_z v z f) at h.0 in sym (lt-ltb _ _ g.sfits)
+told v w z (Err e) y f h = go (ltb (mag z) (2 ^ hbits w)) refl
+  where
+    go : (t : Bool) → ltb (mag z) (2 ^ hbits w) ≡ t → false ≡ t
+    go true e = let g : SFits w z = record { sfits = ltb-true _ _ e } in absurd (h (rw (to_z-of_z v z f) g))
+    go false e = refl
 
 -- a number in the range, as the narrower type holds it
 pub in16 : (z : ℤ) → fits16 z ≡ true → SFits w16 z

@@ -3,16 +3,18 @@ use mathlib.Core.Path.{◌≡◌, refl, ap, ◌∙◌, sym}
 use mathlib.Core.Bool.{Bool, true, false}
 use mathlib.Core.List.{List, [], ◌∷◌, ◌++◌}
 use Prim.Native.Nat.{ℕ, zero, suc, ◌+◌, ◌*◌, ◌/◌, ◌%◌, ◌^◌, ◌<◌, ◌≤◌}
-use native.Mathlib.Nat.{add-zero, add_assoc, zero-add, add-suc, suc-add, mul_assoc, pow-succ', div-one, div-div-eq-div-mul}
+use native.Mathlib.Nat.{add-zero, add_assoc, zero-add, add-suc, suc-add, mul_assoc, mul_comm, pow-succ', div-one, div-div-eq-div-mul}
 use native.Mathlib.Omega.{arith}
 use borrow.Author.Tests.{le-leb, lt-leb}
 use lib.Dec.{leb}
 use lib.IntN.{ℤ}
-use lib.ListN.{length, get_or, take, drop, length-append, get_or-append}
+use lib.ListN.{length, get_or, take, drop, replicate, length-append, get_or-append, get_or-replicate}
+use Rattle.std.proofs.lemmas.List.{get_or-take, get_or-drop, take_rest}
 use lib.Seq.{drop-cons, get_or-append-add}
 use mir.Syntax.{Width, w8, w16, w32, w64, w128}
 use mir.Val.{SFits, to_z, of_z, bits}
 use mir.ValLaws.{to_z-of_z, of_z-to_z, of_z_fits}
+use Rattle.std.specs.Int.{from_le_bytes, to_le_bytes, sum_through, byte_worth, bytes_low_first}
 use Rattle.wire.specs.Pick.{pick}
 use Rattle.wire.specs.Le.{octets, Bytes, le, bytes_of, unsigned_at, signed_at, unsigned_bytes, signed_bytes}
 
@@ -44,10 +46,6 @@ le_split (suc m) n b i =
     let more : 256 ^ suc m * le n b (i + suc m) ≡ 256 * (256 ^ m * le n b (suc i + m)) = simp (pow-succ', mul_assoc, add-suc, suc-add) in
     rw suc-add (omega (arith, rest, more))
 
--- read as the code reads them
-pub le_join : (m n : ℕ) (b : List ℕ) (i : ℕ) {x y : ℕ} → x ≡ le m b i → y ≡ le n b (i + m) → x + 256 ^ m * y ≡ le (m + n) b i
-le_join m n b i e f = rw (e, f) (sym (le_split m n b i))
-
 pub le_below : (n : ℕ) (b : List ℕ) (i : ℕ) → Bytes b → le n b i < 256 ^ n
 unfolding le
 le_below zero b i h = omega arith
@@ -71,6 +69,22 @@ unfolding bytes_of
 bytes_of_split zero n x = simp (zero-add, div-one)
 bytes_of_split (suc m) n x = rw suc-add (ap (λ (l : List ℕ). x % 256 ∷ l) (bytes_of_split m n (x / 256) ∙ simp (div-div-eq-div-mul, pow-succ')))
 
+-- n bytes taken out hold the number that they hold where they stand, and zeros hold 0
+pub le_taken : (n : ℕ) (b : List ℕ) (i : ℕ) → le n b i ≡ le n (take n (drop i b)) 0
+le_taken n b i = le_same n b (take n (drop i b)) i 0 (λ k l. rw zero-add (sym (get_or-take n (drop i b) k 0 l ∙ get_or-drop i b k 0)))
+
+le_zeros : (n i : ℕ) → le n (replicate (i + n) 0) i ≡ 0
+unfolding le
+le_zeros zero i = refl
+le_zeros (suc n) i =
+    let l : List ℕ = replicate (i + suc n) 0 in
+    let first : get_or l i 0 ≡ 0 = get_or-replicate (i + suc n) i 0 0 (omega arith) in
+    let rest : le n l (suc i) ≡ 0 = ap (λ (k : ℕ). le n (replicate k 0) (suc i)) (omega arith) ∙ le_zeros n (suc i) in
+    omega (arith, first, rest)
+
+pub le_zero : (n : ℕ) → le n (replicate n 0) 0 ≡ 0
+le_zero n = rw zero-add at (le_zeros n 0)
+
 le_cons : (n a : ℕ) (b : List ℕ) (i : ℕ) → le n (a ∷ b) (suc i) ≡ le n b i
 le_cons n a b i = le_same n (a ∷ b) b (suc i) i (λ k l. simp suc-add)
 
@@ -92,6 +106,44 @@ bytes_of_le (suc n) b i h l =
     rw (low, high, drop-cons b i 0 (omega arith)) (ap (λ (t : List ℕ). get_or b i 0 ∷ t) (bytes_of_le n b (suc i) h (omega arith)))
 
 -- ---- a number of a width
+
+-- the library reads the same number, and writes the same bytes
+le_one : (b : List ℕ) (i : ℕ) → le 1 b i ≡ get_or b i 0
+unfolding le
+le_one b i = omega arith
+
+through : (k : ℕ) (b : List ℕ) → sum_through (λ j. byte_worth j (get_or b j 0)) k ≡ le (suc k) b 0
+through zero b = sym (le_one b 0)
+through (suc k) b =
+    let last : le (suc k + 1) b 0 ≡ le (suc k) b 0 + 256 ^ suc k * get_or b (suc k) 0 = le_split (suc k) 1 b 0 ∙ ap (λ (x : ℕ). le (suc k) b 0 + 256 ^ suc k * x) (rw zero-add (le_one b (suc k))) in
+    let same : le (suc (suc k)) b 0 ≡ le (suc k + 1) b 0 = ap (λ (n : ℕ). le n b 0) (omega arith) in
+    rw (same, last, through k b, mul_comm (get_or b (suc k) 0) (256 ^ suc k))
+
+pub from_le_16 : (b : List ℕ) → le 2 b 0 ≡ from_le_bytes w16 b
+from_le_16 b = sym (through 1 b)
+
+pub from_le_32 : (b : List ℕ) → le 4 b 0 ≡ from_le_bytes w32 b
+from_le_32 b = sym (through 3 b)
+
+pub from_le_64 : (b : List ℕ) → le 8 b 0 ≡ from_le_bytes w64 b
+from_le_64 b = sym (through 7 b)
+
+low_first : (i k x : ℕ) → bytes_low_first i k x ≡ bytes_of k (x / 256 ^ i)
+unfolding bytes_of
+low_first i zero x = refl
+low_first zero (suc k) x = rw (low_first 1 k x, div-one)
+low_first (suc i) (suc k) x = rw (low_first (suc (suc i)) k x, div-div-eq-div-mul, pow-succ' 256 (suc i), mul_comm 256 (256 ^ suc i))
+
+pub to_le : (w : Width) (x : ℕ) → unsigned_bytes w x ≡ to_le_bytes w x
+unfolding unsigned_bytes
+to_le w8 x = sym (low_first 0 1 x ∙ ap (bytes_of 1) (div-one x))
+to_le w16 x = sym (low_first 0 2 x ∙ ap (bytes_of 2) (div-one x))
+to_le w32 x = sym (low_first 0 4 x ∙ ap (bytes_of 4) (div-one x))
+to_le w64 x = sym (low_first 0 8 x ∙ ap (bytes_of 8) (div-one x))
+to_le w128 x = sym (low_first 0 16 x ∙ ap (bytes_of 16) (div-one x))
+
+-- what the functions that read and write go by
+pub ruleset library = (le_taken, take_rest, le_zero, from_le_16, from_le_32, from_le_64, to_le)
 
 -- every width has whole bytes
 width : (w : Width) → 256 ^ octets w ≡ 2 ^ bits w

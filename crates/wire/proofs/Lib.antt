@@ -1,3 +1,4 @@
+pub mod Pairs
 pub mod Sign
 pub mod Le
 pub mod Store

@@ -1,33 +1,16 @@
 -- Two's complement, once for every width.
-use mathlib.Core.Path.{◌≡◌, refl, ap, ◌∙◌, sym}
-use mathlib.Core.Bool.{Bool, true, false, true≢false}
-use Prim.Native.Nat.{ℕ, zero, suc, ◌-◌, ◌<◌, ◌≤◌, ◌^◌}
+use mathlib.Core.Path.{◌≡◌, refl}
+use mathlib.Core.Bool.{true, false, true≢false}
+use Prim.Native.Nat.{ℕ, suc, ◌-◌, ◌<◌, ◌≤◌, ◌^◌}
 use lib.Dec.{T}
 use lib.IntN.{ℤ, pos, negsuc, ◌-ℤ◌, nat_abs}
 use lib.Signed.{non_neg, lt_z, mag}
-use native.Mathlib.Nat.{zero-add}
 use native.Mathlib.Omega.{arith}
 use native.Mathlib.Numerals.{sub-one}
 use borrow.Author.Tests.{le-ltb, ltb-true}
 use mir.Syntax.{Width}
-use mir.Val.{SFits, Fits, to_z, of_z, bits, hbits, sel}
-use mir.ValLaws.{to_z_pos, to_z-of_z, half_full}
-
-minus : (k : ℕ) → negsuc 0 -ℤ pos k ≡ negsuc k
-minus zero = refl
-minus (suc k) = rw zero-add
-
--- -1 - k, for the number k that a word's lower half holds
-flip : (w : Width) (k : ℕ) → k < 2 ^ hbits w → negsuc 0 -ℤ to_z w k ≡ negsuc k
-flip w k h = rw (to_z_pos w k h) (minus k)
-
-pub flip_fits : (w : Width) (k : ℕ) → k < 2 ^ hbits w → SFits w (negsuc 0 -ℤ to_z w k)
-flip_fits w k h = rw (flip w k h) (record { sfits = h })
-
--- the upper half, x, is -1 - (m - x), m the largest word
-pub high : (w : Width) (m x : ℕ) → suc m ≡ 2 ^ bits w → m - x < 2 ^ hbits w → 2 ^ hbits w ≤ x → to_z w (of_z w (negsuc 0 -ℤ to_z w (m - x))) ≡ to_z w x
-high w m x e k h =
-    to_z-of_z w _ (flip_fits w (m - x) k) ∙ flip w (m - x) k ∙ ap negsuc (omega (arith, e)) ∙ sym (ap (λ (b : Bool). sel b (pos x) (negsuc (2 ^ bits w - suc x))) (le-ltb x (2 ^ hbits w) h))
+use mir.Val.{SFits, Fits, to_z, of_z, bits, hbits}
+use mir.ValLaws.{to_z-of_z, half_full}
 
 -- -1 - z, for a negative z, is the number below it
 plus : (a : ℕ) → negsuc 0 -ℤ negsuc a ≡ pos a

@@ -3,8 +3,8 @@ use mathlib.Core.Path.{◌≡◌, refl, ap, ◌∙◌, sym}
 use mathlib.Core.Bool.{Bool, true, false}
 use mathlib.Core.Logic.{◌⊎◌, inl, inr, ⊎_elim}
 use mathlib.Core.List.{List, [], ◌∷◌, ◌++◌, append_assoc}
-use Prim.Native.Nat.{ℕ, zero, suc, ◌+◌, ◌/◌, ◌^◌, ◌<◌, ◌≤◌}
-use native.Mathlib.Nat.{add-zero, add-suc, suc-add}
+use Prim.Native.Nat.{ℕ, zero, suc, ◌+◌, ◌-◌, ◌^◌, ◌<◌, ◌≤◌}
+use native.Mathlib.Nat.{add-zero, add-suc, suc-add, add-sub_cancel_left}
 use native.Mathlib.Omega.{arith}
 use borrow.Author.Tests.{le-leb, lt-leb, leb-true, leb-false}
 use lib.Dec.{leb}
@@ -14,9 +14,10 @@ use lib.Seq.{sets, sets-eq, length-sets, get_or-set_other, length-take-le, drop-
 use mir.Syntax.{Width}
 use mir.Val.{SFits, to_z, of_z, bits}
 use mir.ValLaws.{to_z-of_z, of_z-to_z, of_z_fits}
+use borrow.Rule.Slice.PartMut.{put_mid}
 use Rattle.wire.specs.Pick.{pick}
-use Rattle.wire.specs.Le.{octets, Bytes, bytes_of, unsigned_at, signed_at, unsigned_bytes, signed_bytes, store}
-use Rattle.wire.proofs.Le.{le_same, bytes_of_length, bytes_of_split, unsigned_length, unsigned_below, unsigned_of_bytes, bytes_of_unsigned}
+use Rattle.wire.specs.Le.{octets, Bytes, unsigned_at, signed_at, unsigned_bytes, signed_bytes, store}
+use Rattle.wire.proofs.Le.{le_same, unsigned_length, unsigned_below, unsigned_of_bytes, bytes_of_unsigned}
 
 -- ---- a run of elements
 
@@ -25,14 +26,6 @@ sets_run : (u v b : List ℕ) (i : ℕ) → sets (sets b i u) (i + length u) v �
 sets_run [] v b i = ap (λ (k : ℕ). sets b k v) (add-zero i)
 sets_run (a ∷ u) v b i =
     ap (λ (k : ℕ). sets (sets (set b i a) (suc i) u) k v) (add-suc i (length u) ∙ sym (suc-add i (length u))) ∙ sets_run u v (set b i a) (suc i)
-
--- the lowest m bytes of x, and then n more
-pub sets_split : (m n x : ℕ) (b : List ℕ) (i : ℕ) {c d : List ℕ} → c ≡ sets b i (bytes_of m x) → d ≡ sets c (i + m) (bytes_of n (x / 256 ^ m)) → d ≡ sets b i (bytes_of (m + n) x)
-sets_split m n x b i {c} {d} e f =
-    f ∙ ap (λ (l : List ℕ). sets l (i + m) (bytes_of n (x / 256 ^ m))) e
-    ∙ ap (λ (k : ℕ). sets (sets b i (bytes_of m x)) (i + k) (bytes_of n (x / 256 ^ m))) (sym (bytes_of_length m x))
-    ∙ sets_run (bytes_of m x) (bytes_of n (x / 256 ^ m)) b i
-    ∙ ap (sets b i) (sym (bytes_of_split m n x))
 
 -- what stands elsewhere is kept
 sets_elsewhere : (v b : List ℕ) (i j : ℕ) → (j < i) ⊎ (i + length v ≤ j) → get_or (sets b i v) j 0 ≡ get_or b j 0
@@ -64,6 +57,10 @@ module _ (b : List ℕ) (i : ℕ) (v : List ℕ) where
 
   pub store_parts : i + length v ≤ length b → store b i v ≡ take i b ++ v ++ drop (i + length v) b
   store_parts h = store_in h ∙ sets-eq v b i h
+
+  -- what is left of b where a part of it, n elements long, now holds v
+  pub put_there : (n : ℕ) {w : List ℕ} → w ≡ v → n ≡ length v → i + n ≤ length b → put_mid i (i + n - i) b w ≡ store b i v
+  put_there n e m h = rw (m, e, add-sub_cancel_left, drop-drop) (sym (append_assoc (take i b) v (drop (i + length v) b)) ∙ sym (store_parts (rw m at h)))
 
   pub store_out : length b < i + length v → store b i v ≡ b
   unfolding store
@@ -111,20 +108,6 @@ store_there b i n h =
 -- ---- a number of a width
 
 module _ (w : Width) where
-  -- what a function leaves that sets the bytes where they lie whole in b, by what a test t says, and else nothing
-  pub write_in : (b : List ℕ) (i x : ℕ) {t : Bool} {c : List ℕ} → t ≡ leb (i + octets w) (length b) → t ≡ true → c ≡ sets b i (bytes_of (octets w) x) → c ≡ store b i (unsigned_bytes w x)
-  unfolding store unsigned_bytes
-  write_in b i x e t f = f ∙ rw (bytes_of_length (octets w) x, sym e ∙ t)
-
-  pub write_out : (b : List ℕ) (i x : ℕ) {t : Bool} → t ≡ leb (i + octets w) (length b) → t ≡ false → b ≡ store b i (unsigned_bytes w x)
-  unfolding store unsigned_bytes
-  write_out b i x e t = rw (bytes_of_length (octets w) x, sym e ∙ t)
-
-  -- a signed number's bits are stored; z has passed through an argument
-  pub write_signed : (b : List ℕ) (i : ℕ) (z : ℤ) {x : ℕ} {c : List ℕ} → SFits w z → x ≡ of_z w (to_z w (of_z w z)) → c ≡ store b i (unsigned_bytes w x) → c ≡ store b i (signed_bytes w z)
-  unfolding signed_bytes
-  write_signed b i z f e g = g ∙ ap (λ (x : ℕ). store b i (unsigned_bytes w x)) (e ∙ ap (of_z w) (to_z-of_z w z f))
-
   -- a number that was written is read
   pub unsigned_back : (b : List ℕ) (i x : ℕ) → i + octets w ≤ length b → x < 2 ^ bits w → unsigned_at w (store b i (unsigned_bytes w x)) i ≡ x
   unsigned_back b i x h l =

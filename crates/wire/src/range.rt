@@ -5,36 +5,27 @@ ghost use Rattle.wire.specs.Range.{fits16, fits32};
 pub fn fits16(z: i64) -> bool
     ensures { result ≡ fits16 z }
 {
-    if z < -32768 {
-        return false;
-    }
-    z <= 32767
+    i16::try_from(z).is_ok()
 }
 
 pub fn fits32(z: i64) -> bool
     ensures { result ≡ fits32 z }
 {
-    if z < -2147483648 {
-        return false;
-    }
-    z <= 2147483647
+    i32::try_from(z).is_ok()
 }
 
 // The lesser of two numbers.
 pub fn least(a: usize, b: usize) -> usize
     ensures { result ≡ min a b }
 {
-    if a < b {
-        return a;
-    }
-    b
+    a.min(b)
 }
 
 // A number as an index.
 pub fn wide8(x: u8) -> usize
     ensures { result ≡ x }
 {
-    x as usize
+    usize::from(x)
 }
 
 pub fn wide32(x: u32) -> usize

@@ -2,20 +2,21 @@
 use mathlib.Core.Path.{◌≡◌, refl, sym, ap, ◌∙◌, subst}
 use mathlib.Core.List.{List}
 use mathlib.Core.Bool.{Bool, true, false}
+use Rattle.std.specs.Prelude.{Some}
 use Prim.Native.Nat.{ℕ, ◌+◌, ◌-◌, ◌*◌, ◌/◌, ◌%◌, ◌^◌, ◌≤◌, ◌<◌}
-use native.Mathlib.Decide.{dec_lt}
 use native.Mathlib.Omega.{arith}
 use lib.Bits.{bit_or, or_add_and, or_lt}
 use lib.Dec.{eqb, leb, ltb}
 use lib.Pow.{pow_mono, pow-lt, pow_pos}
-use lib.ListN.{length, get_or, length-set, get_or-eq_default, replicate, length-replicate, get_or-replicate}
+use lib.ListN.{length, get_or, length-set, replicate, length-replicate}
 use lib.Seq.{get_or-set_same}
 use borrow.Author.Tests.{ltb-true, ltb-false, leb-true, leb-false, eqb-true, eqb-false}
+use Rattle.std.proofs.lemmas.Grind.{common_steps}
 use Rattle.wire.specs.Pick.{pick, either}
 use Rattle.wire.specs.Bit.{bit}
 use Rattle.wire.proofs.Bits.{nonzero, or_pow, or_keeps}
 use Rattle.worklist.specs.Words.{Lowest, total, itself, listed, Sound, weight, Marked, Took}
-use Rattle.worklist.specs.Set.{with_bit, without_bit, marked_low, marked_mid, marked_top, lowest_bit, Lead, Lead.nowhere, Lead.to_summary, Lead.to_word, Lead.to_slot, from_word, from_summary, lead, taken_low, taken_mid, taken}
+use Rattle.worklist.specs.Set.{with_bit, without_bit, marked_low, marked_mid, marked_top, lowest_bit, Lead, Lead.nowhere, Lead.to_summary, Lead.to_word, Lead.to_slot, from_word, from_summary, lead, taken_low, taken_mid, taken_top, taken}
 use Rattle.worklist.proofs.LowestBit.{lowest_bit_lem, lowest_below}
 use Rattle.worklist.proofs.Total.{total_set, after_set}
 
@@ -47,6 +48,10 @@ rm_zero l i z k h =
 rm_less : (l : List ℕ) (i z : ℕ) → i < length l → Lowest (get_or l i 0) z → total itself (without_bit l i z) < total itself l
 rm_less l i z h L = omega (arith, total_set itself l i (get_or l i 0 - 2 ^ z) h, L.has, pow_pos z)
 
+-- the top word has no bit but those of the 32 words below it
+pub top_below : {d s : List ℕ} {top : ℕ} → Sound d s top → (top ≡ 0 → ⊥) → lowest_bit top < 32
+top_below {top = top} S n = lowest_below 32 top (lowest_bit top) S.high (lowest_bit_lem top (omega arith))
+
 module _ (d s : List ℕ) (top : ℕ) (S : Sound d s top) where
   -- a set whose top word is 0 is empty
   pub empty : top ≡ 0 → (v : ℕ) → listed d v ≡ 1 → ⊥
@@ -55,7 +60,7 @@ module _ (d s : List ℕ) (top : ℕ) (S : Sound d s top) where
       nonzero top (v / 64 / 64)
       (S.summaries (v / 64 / 64) (nonzero (get_or s (v / 64 / 64) 0) (v / 64 % 64) (S.words (v / 64) (nonzero (get_or d (v / 64) 0) (v % 64) e)))) z
 
-  put_in : (w : ℕ) → w < 131072
+  pub put_in : (w : ℕ) → w < 131072
       → Marked d s top w (with_bit d (w / 64) (w % 64)) (with_bit s (w / 64 / 64) (w / 64 % 64)) (bit_or top (2 ^ (w / 64 / 64)))
   unfolding listed weight
   put_in w l =
@@ -94,14 +99,14 @@ module _ (d s : List ℕ) (top : ℕ) (S : Sound d s top) where
 
   -- what is taken where the lowest bits lead
   abbrev Takes : Lead → Type 0
-  Takes l = Took d s top (taken_low d l) (taken_mid s l) (taken top l)
+  Takes l = Took d s top (taken_low d l) (taken_mid s l) (taken_top top l) (taken l)
 
   nothing : top ≡ 0 → Takes nowhere
-  unfolding taken_low taken_mid taken
+  unfolding taken_low taken_mid taken_top
   nothing e = record { sound = rw e at S; keeps = λ v h _. h; less = λ h. absurd (omega arith) }
 
-  off_top : (i : ℕ) → Lowest top i → get_or s i 0 ≡ 0 → Takes (to_summary i)
-  unfolding weight taken_low taken_mid taken
+  pub off_top : (i : ℕ) → Lowest top i → get_or s i 0 ≡ 0 → Takes (to_summary i)
+  unfolding weight taken_low taken_mid taken_top
   off_top i L z =
       record {
         sound =
@@ -116,8 +121,8 @@ module _ (d s : List ℕ) (top : ℕ) (S : Sound d s top) where
         less = λ _. omega (arith, L.has, pow_pos i);
       }
 
-  off_summary : (i k : ℕ) → i < 32 → Lowest (get_or s i 0) k → get_or d (i * 64 + k) 0 ≡ 0 → Takes (to_word i k)
-  unfolding weight taken_low taken_mid taken
+  pub off_summary : (i k : ℕ) → i < 32 → Lowest (get_or s i 0) k → get_or d (i * 64 + k) 0 ≡ 0 → Takes (to_word i k)
+  unfolding weight taken_low taken_mid taken_top
   off_summary i k li L z =
       record {
         sound =
@@ -134,8 +139,8 @@ module _ (d s : List ℕ) (top : ℕ) (S : Sound d s top) where
         less = λ _. omega (arith, rm_less s i k (omega (arith, S.mid)) L);
       }
 
-  off_word : (j b : ℕ) → j < length d → Lowest (get_or d j 0) b → Takes (to_slot j b)
-  unfolding weight listed taken_low taken_mid taken
+  pub off_word : (j b : ℕ) → j < length d → Lowest (get_or d j 0) b → Takes (to_slot j b)
+  unfolding weight listed taken_low taken_mid taken_top taken
   off_word j b lj L =
       record {
         sound =
@@ -146,17 +151,13 @@ module _ (d s : List ℕ) (top : ℕ) (S : Sound d s top) where
               words = λ k n. S.words k (rm_zero d j b k lj n);
               summaries = S.summaries;
             };
-        keeps = λ v h ne. rm_keeps d j b (v / 64) (v % 64) lj L h (λ p q. ne (omega arith));
+        keeps = λ v h ne. rm_keeps d j b (v / 64) (v % 64) lj L h (λ p q. ne (ap Some (omega arith)));
         less = λ _. omega (arith, rm_less d j b lj L);
       }
 
   -- a word that is not 0 is one of the list
-  inside : (j : ℕ) → (get_or d j 0 ≡ 0 → ⊥) → j < length d
-  inside j n = go (dec_lt j (length d))
-    where
-      go : Dec (j < length d) → j < length d
-      go (yes h) = h
-      go (no h) = absurd (n (get_or-eq_default d 0 {n = j} (omega arith)))
+  pub inside : (j : ℕ) → (get_or d j 0 ≡ 0 → ⊥) → j < length d
+  inside j n = grind (arith, common_steps)
 
   takes_word : (i k : ℕ) → i < 32 → Lowest (get_or s i 0) k → Takes (from_word i k (get_or d (i * 64 + k) 0))
   unfolding from_word
@@ -180,28 +181,21 @@ module _ (d s : List ℕ) (top : ℕ) (S : Sound d s top) where
       go true e = off_top i L (eqb-true word 0 e)
       go false e = takes_word i (lowest_bit word) li (lowest_bit_lem word (omega (arith, eqb-false word 0 e)))
 
-  pub took : Took d s top (taken_low d (lead d s top)) (taken_mid s (lead d s top)) (taken top (lead d s top))
+  pub took : Took d s top (taken_low d (lead d s top)) (taken_mid s (lead d s top)) (taken_top top (lead d s top)) (taken (lead d s top))
   unfolding lead
   took = go (eqb top 0) refl (leb 32 i) refl
     where
       i : ℕ
       i = lowest_bit top
 
-      L : (top ≡ 0 → ⊥) → Lowest top i
-      L n = lowest_bit_lem top (omega (arith, n))
-
       go : (t : Bool) → eqb top 0 ≡ t → (u : Bool) → leb 32 i ≡ u → Takes (pick (either t u) nowhere (from_summary d i (get_or s i 0)))
       go true e u f = nothing (eqb-true top 0 e)
-      go false e true f = absurd (omega (arith, leb-true 32 i f, lowest_below 32 top i S.high (L (eqb-false top 0 e))))
-      go false e false f = takes_summary i (leb-false 32 i f) (L (eqb-false top 0 e))
+      go false e true f = absurd (omega (arith, leb-true 32 i f, top_below S (eqb-false top 0 e)))
+      go false e false f = takes_summary i (leb-false 32 i f) (lowest_bit_lem top (omega (arith, eqb-false top 0 e)))
 
 -- all words 0: a sound set
 zeros : (n j : ℕ) → get_or {A = ℕ} (replicate n 0) j 0 ≡ 0
-zeros n j = go (dec_lt j n)
-  where
-    go : Dec (j < n) → get_or {A = ℕ} (replicate n 0) j 0 ≡ 0
-    go (yes h) = get_or-replicate {A = ℕ} n j 0 0 h
-    go (no h) = get_or-eq_default {A = ℕ} (replicate n 0) 0 {n = j} (omega (arith, length-replicate {A = ℕ} n 0))
+zeros n j = grind (arith, common_steps)
 
 pub none : Sound (replicate 2048 0) (replicate 32 0) 0
 none =

@@ -1,9 +1,8 @@
 -- What becomes of the three levels where a slot is put in and where a bit is taken out: d has a bit for each slot, s for each word of d, top for each word of s.
-use Rattle.std.specs.Prelude.{ℕ, ◌+◌, ◌-◌, ◌*◌, ◌/◌, ◌%◌, ◌^◌, List, eqb, leb, ltb, get_or, set}
+use Rattle.std.specs.Prelude.{ℕ, ◌+◌, ◌-◌, ◌*◌, ◌/◌, ◌%◌, ◌^◌, List, eqb, leb, ltb, Option, Some, None, get_or, set}
 use Rattle.std.specs.Int.Bits.{bit_or}
 use Rattle.std.specs.Int.Count.{count_trailing_zeros}
 use Rattle.wire.specs.Pick.{pick, either}
-use Rattle.worklist.specs.declared.Taken.{Taken}
 
 -- word i with its bit b, and without it where it has it
 abbrev pub with_bit : List ℕ → ℕ → ℕ → List ℕ
@@ -46,7 +45,7 @@ from_summary d i word = pick (eqb word 0) (to_summary i) (from_word i (lowest_bi
 unfoldable pub lead : List ℕ → List ℕ → ℕ → Lead
 lead d s top = pick (either (eqb top 0) (leb 32 (lowest_bit top))) nowhere (from_summary d (lowest_bit top) (get_or s (lowest_bit top) 0))
 
--- the levels without that bit, and the slot, or 131,072
+-- the levels without that bit, and the slot, or none
 unfoldable pub taken_low : List ℕ → Lead → List ℕ
 taken_low d nowhere = d
 taken_low d (to_summary i) = d
@@ -59,8 +58,14 @@ taken_mid s (to_summary i) = s
 taken_mid s (to_word i k) = without_bit s i k
 taken_mid s (to_slot j b) = s
 
-unfoldable pub taken : ℕ → Lead → Taken
-taken top nowhere = record { top = 0; slot = 131072 }
-taken top (to_summary i) = record { top = top - 2 ^ i; slot = 131072 }
-taken top (to_word i k) = record { top = top; slot = 131072 }
-taken top (to_slot j b) = record { top = top; slot = j * 64 + b }
+unfoldable pub taken_top : ℕ → Lead → ℕ
+taken_top top nowhere = 0
+taken_top top (to_summary i) = top - 2 ^ i
+taken_top top (to_word i k) = top
+taken_top top (to_slot j b) = top
+
+unfoldable pub taken : Lead → Option ℕ
+taken nowhere = None
+taken (to_summary i) = None
+taken (to_word i k) = None
+taken (to_slot j b) = Some (j * 64 + b)

@@ -1,7 +1,6 @@
 -- A set of slots in three levels of words. A bit above says that the word below may be other than 0: it may say too much, never too little.
-use Rattle.std.specs.Prelude.{ℕ, ◌+◌, ◌-◌, ◌/◌, ◌%◌, ◌^◌, ◌≤◌, ◌<◌, ◌≡◌, List, [], ◌∷◌, length, get_or}
+use Rattle.std.specs.Prelude.{ℕ, ◌+◌, ◌-◌, ◌/◌, ◌%◌, ◌^◌, ◌≤◌, ◌<◌, ◌≡◌, List, [], ◌∷◌, Option, Some, length, get_or}
 use Rattle.wire.specs.Bit.{bit}
-use Rattle.worklist.specs.declared.Taken.{Taken}
 
 -- z is the lowest set bit of n, and n − 2^z is n without it
 pub record Lowest (n z : ℕ) : Type 0 where
@@ -41,8 +40,8 @@ pub record Marked (d s : List ℕ) (top w : ℕ) (d' s' : List ℕ) (top' : ℕ)
   pub keeps : (v : ℕ) → listed d v ≡ 1 → listed d' v ≡ 1
   pub most : weight d' s' top' ≤ weight d s top + 2 ^ 65
 
--- d, s, top with at most one slot taken out
-pub record Took (d s : List ℕ) (top : ℕ) (d' s' : List ℕ) (r : Taken) : Type 0 where
-  pub sound : Sound d' s' r.top
-  pub keeps : (v : ℕ) → listed d v ≡ 1 → (v ≡ r.slot → ⊥) → listed d' v ≡ 1
-  pub less : 0 < top → weight d' s' r.top < weight d s top
+-- d, s, top with at most one slot taken out, r
+pub record Took (d s : List ℕ) (top : ℕ) (d' s' : List ℕ) (top' : ℕ) (r : Option ℕ) : Type 0 where
+  pub sound : Sound d' s' top'
+  pub keeps : (v : ℕ) → listed d v ≡ 1 → (Some v ≡ r → ⊥) → listed d' v ≡ 1
+  pub less : 0 < top → weight d' s' top' < weight d s top

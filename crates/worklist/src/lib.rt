@@ -1,21 +1,15 @@
 // A set of slots below 131,072 in three levels of words: a bit for each slot, one for each word of those, one for each word of these.
 #![tactic(auto)]
 
-ghost use Rattle.std.specs.Prelude.{◌≡◌, ◌<◌, ◌≤◌, ◌^◌};
-ghost use Rattle.worklist.specs.Set.{marked_low, marked_mid, marked_top, lowest_bit, lead, taken_low, taken_mid, taken};
+ghost use Rattle.std.specs.Prelude.{◌≡◌, ◌<◌, ◌≤◌, ◌^◌, replicate};
+ghost use Rattle.worklist.specs.Set.{marked_low, marked_mid, marked_top, lowest_bit, lead, taken_low, taken_mid, taken_top, taken};
 
-// A slot taken out of the set, or 131,072 for none, and the top word.
+// The three levels; a bit of an upper one may say too much, never too little. The top word stands first: behind the arrays it was slower.
 #[derive(Drop)]
-pub struct Taken {
+pub struct Worklist {
     pub top: u64,
-    pub slot: usize,
-}
-
-fn one(k: usize) -> u64
-    requires { k < 64 }
-    ensures { result ≡ 2 ^ k }
-{
-    1u64 << k
+    pub mid: [u64; 32],
+    pub low: [u64; 2048],
 }
 
 fn lowest(x: u64) -> usize
@@ -23,62 +17,68 @@ fn lowest(x: u64) -> usize
     ensures value { result ≡ lowest_bit x }
     ensures upper_bound { (result < 64) × (2 ^ result ≤ x) }
 {
-    u64::trailing_zeros(x) as usize
+    x.trailing_zeros() as usize
 }
 
-// Puts slot w into the set.
-pub fn mark(d: &mut [u64; 2048], s: &mut [u64; 32], top: u64, w: usize) -> u64
-    ensures value { result ≡ marked_top top w }
-    ensures d_after { d.new ≡ marked_low d.old w }
-    ensures s_after { s.new ≡ marked_mid s.old w }
-{
-    if 131072 <= w {
-        return top;
+impl Worklist {
+    // The empty set.
+    pub fn new() -> Worklist
+        ensures low { result.low ≡ replicate 2048 0 }
+        ensures mid { result.mid ≡ replicate 32 0 }
+        ensures top { result.top ≡ 0 }
+    {
+        Worklist {
+            top: 0,
+            mid: [0; 32],
+            low: [0; 2048],
+        }
     }
-    let j = w / 64;
-    let i = j / 64;
-    d[j] = d[j] | one(w % 64);
-    s[i] = s[i] | one(j % 64);
-    top | one(i)
-}
 
-// Takes a slot out, or a bit that stands above a word that is 0.
-pub fn take(d: &mut [u64; 2048], s: &mut [u64; 32], top: u64) -> Taken
-    ensures value { result ≡ taken top (lead d.old s.old top) }
-    ensures d_after { d.new ≡ taken_low d.old (lead d.old s.old top) }
-    ensures s_after { s.new ≡ taken_mid s.old (lead d.old s.old top) }
-{
-    if top == 0 {
-        return Taken {
-            top: 0,
-            slot: 131072,
-        };
+    // Puts a slot into the set.
+    pub fn mark(&mut self, slot: usize)
+        ensures low { self.new.low ≡ marked_low self.old.low slot }
+        ensures mid { self.new.mid ≡ marked_mid self.old.mid slot }
+        ensures top { self.new.top ≡ marked_top self.old.top slot }
+    {
+        if slot < 131072 {
+            let j = slot / 64;
+            let i = j / 64;
+            self.low[j] |= 1 << (slot % 64);
+            self.mid[i] |= 1 << (j % 64);
+            self.top |= 1 << i;
+        }
     }
-    let i = lowest(top);
-    if 32 <= i {
-        return Taken {
-            top: 0,
-            slot: 131072,
-        };
-    }
-    let si = s[i];
-    if si == 0 {
-        return Taken {
-            top: top - one(i),
-            slot: 131072,
-        };
-    }
-    let k = lowest(si);
-    let j = i * 64 + k;
-    let dj = d[j];
-    if dj == 0 {
-        s[i] = si - one(k);
-        return Taken { top, slot: 131072 };
-    }
-    let b = lowest(dj);
-    d[j] = dj - one(b);
-    Taken {
-        top,
-        slot: j * 64 + b,
+
+    // Takes a slot out, or a bit that stands above a word that is 0.
+    pub fn take(&mut self) -> Option<usize>
+        ensures value { result ≡ taken (lead self.old.low self.old.mid self.old.top) }
+        ensures low { self.new.low ≡ taken_low self.old.low (lead self.old.low self.old.mid self.old.top) }
+        ensures mid { self.new.mid ≡ taken_mid self.old.mid (lead self.old.low self.old.mid self.old.top) }
+        ensures top { self.new.top ≡ taken_top self.old.top (lead self.old.low self.old.mid self.old.top) }
+    {
+        if self.top == 0 {
+            return None;
+        }
+        let i = lowest(self.top);
+        // a bit above the 32 words is no slot's
+        if 32 <= i {
+            self.top = 0;
+            return None;
+        }
+        let mid = self.mid[i];
+        if mid == 0 {
+            self.top -= 1 << i;
+            return None;
+        }
+        let k = lowest(mid);
+        let j = i * 64 + k;
+        let low = self.low[j];
+        if low == 0 {
+            self.mid[i] = mid - (1 << k);
+            return None;
+        }
+        let b = lowest(low);
+        self.low[j] = low - (1 << b);
+        Some(j * 64 + b)
     }
 }

@@ -9,12 +9,12 @@ use Rattle.lower.proofs.scratch_after.Goals as goal
 pub returns-in-9 : goal.returns-in-9
 unfolding scratch_by fields_in
 returns-in-9 c =
-    c.after_first.ensures ∙ moved c.args.payload.now c.get_u8-in-9.ensures (is_call_map (fields_in c.args.payload.now 0) c.get_u8.ensures c.in-9.is) refl c.args.j
+    c.after_first.ensures ∙ moved c.args.payload.now (is_call_map (fields_in c.args.payload.now 0) c.get_u8.ensures c.in-9.is) refl c.args.j
 
 pub returns-in-10 : goal.returns-in-10
 unfolding scratch_by fields_in
 returns-in-10 c =
-    c.after_two.ensures ∙ moved c.args.payload.now c.get_u8-in-10.ensures (is_update_map (fields_in c.args.payload.now 0) c.get_u8.ensures c.in-10.is) refl c.args.j
+    c.after_two.ensures ∙ moved c.args.payload.now (is_update_map (fields_in c.args.payload.now 0) c.get_u8.ensures c.in-10.is) refl c.args.j
 
 pub returns-in_default : goal.returns-in_default
 unfolding scratch_in fields_in

@@ -2,29 +2,12 @@
 use mathlib.Core.Path.{sym, ◌∙◌}
 use Prim.Native.Nat.{◌+◌, ◌≤◌}
 use native.Mathlib.Omega.{arith}
-use borrow.Author.Tests.{leb-true, leb-false}
+use borrow.Author.Tests.{leb-true}
 use lib.ListN.{length}
 use mir.Syntax.{w32, w64}
-use Rattle.wire.proofs.Store.{store_out}
 use Rattle.operand.specs.Operand.{operand_bytes}
 use Rattle.operand.proofs.Pieces.{byte, number, signed, ◌▸◌}
-use Rattle.operand.proofs.OperandBytes.{operand_length}
 use Rattle.operand.proofs.put_operand.Goals as goal
-
-pub overflow_add-at : goal.overflow_add-at
-overflow_add-at c =
-    let room : c.args.at + 9 ≤ length c.args.b.now = leb-true _ _ (sym c.lies.ensures ∙ c.if-lies.true) in
-    omega (arith, room)
-
-pub overflow_add-at-in-Var : goal.overflow_add-at-in-Var
-overflow_add-at-in-Var c =
-    let room : c.args.at + 9 ≤ length c.args.b.now = leb-true _ _ (sym c.lies.ensures ∙ c.if-lies.true) in
-    omega (arith, room)
-
-pub overflow_add-at-in-Immediate : goal.overflow_add-at-in-Immediate
-overflow_add-at-in-Immediate c =
-    let room : c.args.at + 9 ≤ length c.args.b.now = leb-true _ _ (sym c.lies.ensures ∙ c.if-lies.true) in
-    omega (arith, room)
 
 pub returns-in-Var : goal.returns-in-Var
 unfolding operand_bytes
@@ -39,8 +22,3 @@ returns-in-Immediate c =
     let room : c.args.at + 9 ≤ length c.args.b.now = leb-true _ _ (sym c.lies.ensures ∙ c.if-lies.true) in
     rw c.in-Immediate.is
     ((byte 1 (omega arith) c.put_u8-in-Immediate.ensures ▸ signed w64 c.in-Immediate.z (record { sfits = omega arith }) c.put_i64.ensures).left room)
-
-pub returns-else-lies : goal.returns-else-lies
-returns-else-lies c =
-    let out = leb-false (c.args.at + 9) (length c.args.b.now) (sym c.lies.ensures ∙ c.if-lies.false) in
-    sym (store_out c.args.b.now c.args.at (operand_bytes c.args.o) (omega (arith, out, operand_length c.args.o)))

@@ -9,10 +9,6 @@ use Rattle.operand.proofs.OperandBytes.{operands}
 use Rattle.payloadwriter.proofs.Pieces.{instruction_pieces}
 use Rattle.payloadwriter.proofs.set_instruction.Goals as goal
 
-pub overflow_add-at-7 : goal.overflow_add-at-7
-overflow_add-at-7 c =
-    omega (arith, c.requires, c.well_formed.0)
-
 pub returns : goal.returns
 returns c =
     let n = c.count-count in

@@ -7,9 +7,6 @@ use Rattle.screen.specs.Verdict.{unreadable}
 use Rattle.screen.proofs.Pass.{clear, first, at_end}
 use Rattle.screen.proofs.by_table.Goals as goal
 
-pub loop-s-init : goal.loop-s-init
-loop-s-init c = (omega arith, λ k l. absurd (omega arith))
-
 pub lacking_at-lacks-requires : goal.lacking_at-lacks-requires
 unfolding slots
 lacking_at-lacks-requires c =
@@ -23,13 +20,7 @@ returns-then-lacks-gt0 c =
     let L = c.loop-s in
     let lacks = c.lacking_at-lacks in
     let h : L.s < slots c.args.code.now = c.loop-s-test.true in
-    rw (c.lowest-register.ensures, lacks.ensures) (unreadable (first c.args.code.now (length c.args.table.now) c.requires.apt L.s (get_or c.args.table.now L.s 0) h (c.requires.by_index L.s h) (omega (arith, lacks.ensures))) L.invariant.1)
-
-pub overflow_add-s : goal.overflow_add-s
-overflow_add-s c = omega arith
-
-pub loop-s-smaller : goal.loop-s-smaller
-loop-s-smaller c = omega arith
+    rw (c.lowest-register.ensures, lacks.ensures) (unreadable (first c.args.code.now (length c.args.table.now) c.requires.apt L.s (get_or c.args.table.now L.s 0) h (c.requires.by_index L.s h) (omega (arith, lacks.ensures))) L.invariant)
 
 pub loop-s-preserved : goal.loop-s-preserved
 unfolding slots
@@ -37,9 +28,9 @@ loop-s-preserved c =
     let L = c.loop-s in
     let h : L.s < slots c.args.code.now = c.loop-s-test.true in
     let z = clear c.args.code.now (length c.args.table.now) c.requires.apt L.s (get_or c.args.table.now L.s 0) h (c.requires.by_index L.s h) (omega (arith, c.lacking_at-lacks.ensures)) in
-    (omega arith, below_more _ _ L.invariant.1 z)
+    below_more _ _ L.invariant z
 
 pub returns : goal.returns
 unfolding slots
 returns c =
-    rw c.ended-last.ensures (at_end c.args.code.now c.args.ends (λ s h. c.loop-s.invariant.1 s (omega arith)) c.requires.told)
+    rw c.ended.ensures (at_end c.args.code.now c.args.ends (λ s h. c.loop-s.invariant s (omega arith)) c.requires.told)

@@ -17,7 +17,7 @@ pub returns-in-35 : goal.returns-in-35
 returns-in-35 c = c.no_operands-in-35.ensures ∙ helper_none c.args.payload.now _ (rw (sym c.get_u32-id.ensures ∙ c.in-35.is))
 
 pub returns-in-16 : goal.returns-in-16
-returns-in-16 c = c.refused.ensures ∙ helper_16 c.args.payload.now _ (sym c.get_u32-id.ensures ∙ c.in-16.is)
+returns-in-16 c = helper_16 c.args.payload.now _ (sym c.get_u32-id.ensures ∙ c.in-16.is)
 
 pub returns-in-114 : goal.returns-in-114
 returns-in-114 c = c.three_operands.ensures ∙ helper_three c.args.payload.now _ (inl (sym c.get_u32-id.ensures ∙ c.in-114.is))
@@ -27,5 +27,4 @@ returns-in-115 c = c.three_operands-in-115.ensures ∙ helper_three c.args.paylo
 
 pub returns-in_default : goal.returns-in_default
 returns-in_default c =
-    c.refused-in_default.ensures
-    ∙ rw (← c.get_u32-id.ensures) (helper_other c.args.payload.now c.get_u32-id.result c.in_default.in_default-own.rest.0.0.0.0.0.0.1 c.in_default.in_default-own.rest.0.0.0.0.0.1 c.in_default.in_default-own.rest.0.0.0.0.1 c.in_default.in_default-own.rest.0.0.0.1 c.in_default.in_default-own.rest.0.0.1 c.in_default.in_default-own.rest.0.1 c.in_default.in_default-own.rest.1)
+    rw (← c.get_u32-id.ensures) (helper_other c.args.payload.now c.get_u32-id.result c.in_default.in_default-own.rest.0.0.0.0.0.0.1 c.in_default.in_default-own.rest.0.0.0.0.0.1 c.in_default.in_default-own.rest.0.0.0.0.1 c.in_default.in_default-own.rest.0.0.0.1 c.in_default.in_default-own.rest.0.0.1 c.in_default.in_default-own.rest.0.1 c.in_default.in_default-own.rest.1)

@@ -1,13 +1,12 @@
 -- `no_operands` takes none.
-use mathlib.Core.Path.{◌∙◌}
 use borrow.Author.Tests.{eq-eqb, ne_eqb}
-use Rattle.size.specs.Part.{of_none}
+use Rattle.size.specs.Part.{takes, of_none}
 use Rattle.size.proofs.no_operands.Goals as goal
 
 pub returns-then-n-ne0 : goal.returns-then-n-ne0
 unfolding of_none
-returns-then-n-ne0 c = c.refused.ensures ∙ simp (← c.get_u8-n.ensures, ne_eqb _ 0 c.if-n-ne0.true)
+returns-then-n-ne0 c = simp (← c.get_u8-n.ensures, ne_eqb _ 0 c.if-n-ne0.true)
 
 pub returns : goal.returns
-unfolding of_none
-returns c = c.takes.ensures ∙ simp (← c.get_u8-n.ensures, eq-eqb _ 0 c.if-n-ne0.false)
+unfolding of_none takes
+returns c = simp (← c.get_u8-n.ensures, eq-eqb _ 0 c.if-n-ne0.false)

@@ -1,32 +1,36 @@
--- Store: the operands, and then the size.
-use mathlib.Core.Path.{sym, ◌∙◌}
+-- Store: its size after its operands.
+use mathlib.Core.Path.{refl, sym, ap, ◌∙◌}
+use Rattle.insn.specs.Rfc.{STX}
+use Rattle.insn.specs.Form.{mem_code}
 use Rattle.lower.specs.Instruction.{opcode}
-use Rattle.lower.specs.Held.{held}
-use Rattle.lower.specs.Step.{first_of}
+use Rattle.lower.proofs.Exits.{handed_on}
 use Rattle.size.specs.Size.{size_by}
-use Rattle.size.specs.Part.{takes}
-use Rattle.size.proofs.Takes.{of_size}
-use Rattle.size.proofs.Opcodes.{not_two_refused, judged_two, store}
+use Rattle.size.proofs.Takes.{judged, first_stops, then_stops, both, refused_is, taken, sized_is, no_size}
+use Rattle.size.proofs.Opcodes.{not_two_refused, store}
 use Rattle.size.proofs.store.Goals as goal
 
 pub returns-then-n-ne2 : goal.returns-then-n-ne2
 unfolding size_by opcode
-returns-then-n-ne2 c = c.refused.ensures ∙ not_two_refused c.args.payload.now _ c.get_u8-n.result c.get_u8-n.ensures c.if-n-ne2.true
+returns-then-n-ne2 c = not_two_refused c.args.payload.now _ c.get_u8-n.result c.get_u8-n.ensures c.if-n-ne2.true
 
-pub returns-in-Refused : goal.returns-in-Refused
-unfolding held takes first_of
-returns-in-Refused c =
+pub returns-in_err-judge : goal.returns-in_err-judge
+returns-in_err-judge c =
     let p = c.args.payload.now in
-    rw (← store p c.get_u8-n.result c.get_u8-n.ensures c.if-n-ne2.false _, sym (judged_two p c.operand_in-a.ensures c.operand_in-b.ensures c.judge.ensures c.judge-2.ensures) ∙ c.in-Refused.is) c.refused-in-Refused.ensures
+    handed_on c.from_residual.ensures.1 ∙ refused_is _ _ (first_stops _ (first_stops _ (judged c.judge.ensures c.operand_in-place.ensures c.in_err-judge.was))) ∙ store p c.get_u8-n.result c.get_u8-n.ensures c.if-n-ne2.false _
 
-pub returns-in-Code : goal.returns-in-Code
-unfolding first_of of_size
-returns-in-Code c =
+pub returns-in_err-judge-2 : goal.returns-in_err-judge-2
+returns-in_err-judge-2 c =
     let p = c.args.payload.now in
-    rw (← store p c.get_u8-n.result c.get_u8-n.ensures c.if-n-ne2.false _, sym (judged_two p c.operand_in-a.ensures c.operand_in-b.ensures c.judge.ensures c.judge-2.ensures) ∙ c.in-Fine.is, ← c.get_u8-size.ensures, ← c.stx_mem.ensures, c.in-Code.is) c.takes.ensures
+    handed_on c.from_residual-in_err-judge-2.ensures.1 ∙ refused_is _ _ (first_stops _ (then_stops (judged c.judge.ensures c.operand_in-place.ensures c.in_ok-judge.was) (judged c.judge-2.ensures c.operand_in-value.ensures c.in_err-judge-2.was))) ∙ store p c.get_u8-n.result c.get_u8-n.ensures c.if-n-ne2.false _
 
-pub returns-in-Unsupported : goal.returns-in-Unsupported
-unfolding held takes first_of of_size
-returns-in-Unsupported c =
+pub returns-in-Some : goal.returns-in-Some
+returns-in-Some c =
     let p = c.args.payload.now in
-    rw (← store p c.get_u8-n.result c.get_u8-n.ensures c.if-n-ne2.false _, sym (judged_two p c.operand_in-a.ensures c.operand_in-b.ensures c.judge.ensures c.judge-2.ensures) ∙ c.in-Fine.is, ← c.get_u8-size.ensures, ← c.stx_mem.ensures, c.in-Unsupported.is) c.refused-in-Unsupported.ensures
+    let size = c.stx_mem.ensures ∙ ap (mem_code STX) c.get_u8-size.ensures in
+    taken (both (both (judged c.judge.ensures c.operand_in-place.ensures c.in_ok-judge.was) (judged c.judge-2.ensures c.operand_in-value.ensures c.in_ok-judge-2.was)) (sized_is _ (sym size ∙ c.in-Some.is))) refl refl ∙ store p c.get_u8-n.result c.get_u8-n.ensures c.if-n-ne2.false _
+
+pub returns-in-None : goal.returns-in-None
+returns-in-None c =
+    let p = c.args.payload.now in
+    let size = c.stx_mem.ensures ∙ ap (mem_code STX) c.get_u8-size.ensures in
+    rw c.get_u8-size.ensures (refused_is _ _ (then_stops (both (judged c.judge.ensures c.operand_in-place.ensures c.in_ok-judge.was) (judged c.judge-2.ensures c.operand_in-value.ensures c.in_ok-judge-2.was)) (no_size (sym size ∙ c.in-None.is))) ∙ store p c.get_u8-n.result c.get_u8-n.ensures c.if-n-ne2.false _)

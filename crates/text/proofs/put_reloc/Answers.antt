@@ -7,6 +7,7 @@ use Rattle.text.specs.Lines.{reloc_line}
 use Rattle.text.proofs.LineLengths.{reloc_length}
 use Rattle.text.proofs.Wrote.{room, no_room, piece, ◌▸◌, whole, none}
 use Rattle.text.proofs.put_reloc.Goals as goal
+use Rattle.text.proofs.put_reloc.Goals.{else-lies-via-then-lies+else-lies-2, else-lies-via-else-lies}
 
 pub overflow_add-at : goal.overflow_add-at
 overflow_add-at c =
@@ -26,14 +27,15 @@ returns-then-lies-2 c =
     fits in
     record { value = shown.0; out_after = shown.1 }
 
-pub returns-else-lies-2 : goal.returns-else-lies-2
-returns-else-lies-2 c =
-    let out = no_room (c.args.at + length c.args.name.now) (8 + c.digits.result) (length c.args.out.now) c.lies-then-lies.ensures c.if-lies-2.false in
-    let shown = none c.args.out.now c.args.at (reloc_line c.args.offset.0 c.args.name.now) (omega (arith, reloc_length c.args.offset.0 c.args.name.now, c.digits.ensures.0)) in
-    record { value = shown.0; out_after = shown.1 }
-
-pub returns-else-lies : goal.returns-else-lies
-returns-else-lies c =
-    let out = no_room c.args.at (length c.args.name.now) (length c.args.out.now) c.lies.ensures c.if-lies.false in
-    let shown = none c.args.out.now c.args.at (reloc_line c.args.offset.0 c.args.name.now) (omega (arith, reloc_length c.args.offset.0 c.args.name.now)) in
+pub returns : goal.returns
+returns c =
+    let n = reloc_length c.args.offset.0 c.args.name.now in
+    let shown = none c.args.out.now c.args.at (reloc_line c.args.offset.0 c.args.name.now) (elim c.else-lies.branch [
+      | else-lies-via-then-lies+else-lies-2 w ↦
+          let out = no_room (c.args.at + length c.args.name.now) (8 + w.digits.result) (length c.args.out.now) w.lies-then-lies.ensures w.if-lies-2.false in
+          omega (arith, w.digits.ensures.0)
+      | else-lies-via-else-lies w ↦
+          let out = no_room c.args.at (length c.args.name.now) (length c.args.out.now) c.lies.ensures w.if-lies.false in
+          omega arith
+    ]) in
     record { value = shown.0; out_after = shown.1 }

@@ -1,11 +1,7 @@
 -- `worklist::lowest` finds the lowest set bit.
-use native.Mathlib.Omega.{arith}
-use lib.Count.{count_trailing_zeros, trailing_le}
+use lib.Count.{count_trailing_zeros}
 use Rattle.worklist.proofs.LowestBit.{lowest, lowest_below, zeros_lowest}
 use Rattle.worklist.proofs.lowest.Goals as goal
-
-pub overflow_cast-result : goal.overflow_cast-result
-overflow_cast-result c = omega (arith, trailing_le 64 c.args.x)
 
 pub returns : goal.returns
 returns c =

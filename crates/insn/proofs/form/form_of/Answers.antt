@@ -1,13 +1,13 @@
--- `form_of` is the form that RFC 9669's fields give: the one that has the table's number.
-use mathlib.Core.Path.{ap, ◌∙◌}
+-- `form_of` lists each byte that has a form.
+use mathlib.Core.Path.{◌≡◌, sym}
+use mathlib.Core.Bool.{false}
 use native.Mathlib.Omega.{arith}
-use Rattle.insn.specs.Form.{form_of}
-use Rattle.insn.proofs.Forms.{kinds, kind, numbered, few}
+use lib.Dec.{eqb}
+use Rattle.std.specs.List.{list_any}
+use Rattle.std.proofs.lemmas.Bool.Decides.{nat_tests}
+use Rattle.insn.proofs.Forms.{codes, no_form}
 use Rattle.insn.proofs.form.form_of.Goals as goal
 
-pub bounds-n-n : goal.bounds-n-n
-bounds-n-n c = omega (arith, c.number-n.ensures, few (form_of c.args.code))
-
-pub returns : goal.returns
-unfolding kinds
-returns c = ap kind c.number-n.ensures ∙ numbered (form_of c.args.code)
+pub returns-in_default : goal.returns-in_default
+unfolding codes
+returns-in_default c = let e : list_any (eqb c.args.code) codes ≡ false = grind (arith, nat_tests) in sym (no_form c.args.code (omega (arith, c.ranges.code)) e)

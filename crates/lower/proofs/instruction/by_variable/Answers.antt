@@ -1,28 +1,30 @@
 -- Binary by a variable.
 use mathlib.Core.List.{[], ◌∷◌}
-use Rattle.frame.specs.Hint.{frame_by}
+use Rattle.frame.specs.Lent.{frame_in}
+use Rattle.insn.specs.Layout.{insn_of}
+use Rattle.lower.specs.Op.{plain}
 use Rattle.lower.specs.Instruction.{operate}
-use Rattle.lower.proofs.Compose.{along, none_put}
+use Rattle.lower.specs.Step.{ops_in, words}
+use Rattle.lower.proofs.Compose.{along, passed_on}
 use Rattle.lower.proofs.Pieces.{operate_register}
 use Rattle.lower.proofs.Words.{Are, itself, word_is_lem, word_refused, ◌then◌, stops, past}
 use Rattle.lower.proofs.instruction.by_variable.Goals as goal
 
-pub returns-in_default : goal.returns-in_default
+pub returns-in_err-b : goal.returns-in_err-b
 unfolding operate
-returns-in_default c =
-    let f = frame_by c.args.variables.now c.args.hints.now in
-    none_put c.refused.ensures (past _ (stops (itself (c.args.a ∷ [])) (past _ (word_refused c.load_word-second.ensures c.in_default.is c.reason.ensures))))
+returns-in_err-b c =
+    passed_on c.from_residual.ensures.1 (past _ (stops (itself c.args.a) (past _ (word_refused (c.load_word.ensures) c.in_err-b.was))))
 
-pub returns-in_default-last : goal.returns-in_default-last
-unfolding operate
-returns-in_default-last c =
-    let f = frame_by c.args.variables.now c.args.hints.now in
-    let register : Are (c.word-c.result ∷ []) _ = record { same = operate_register f c.args.op c.word-c.result c.word-c.ensures c.alu64_reg.ensures } in
-    none_put c.refused-in_default-last.ensures (stops (itself (c.args.a ∷ []) then (word_is_lem c.load_word-second.ensures c.in-Is.is then register)) (word_refused c.keep_word-last.ensures c.in_default-last.is c.reason-in_default-last.ensures))
+pub returns-in_err-d : goal.returns-in_err-d
+unfolding operate words ops_in
+returns-in_err-d c =
+    let f = frame_in c.args.frame in
+    let register : Are (plain (insn_of c.word-c.result) ∷ []) _ = record { same = operate_register f c.args.op c.word-c.result c.word-c.ensures c.alu64_reg.ensures } in
+    passed_on c.from_residual-in_err-d.ensures.1 (stops (itself c.args.a then (word_is_lem (c.load_word.ensures) c.in_ok-b.was then register)) (word_refused (c.keep_word.ensures) c.in_err-d.was))
 
 pub returns : goal.returns
-unfolding operate
+unfolding operate words ops_in
 returns c =
-    let f = frame_by c.args.variables.now c.args.hints.now in
-    let register : Are (c.word-c.result ∷ []) _ = record { same = operate_register f c.args.op c.word-c.result c.word-c.ensures c.alu64_reg.ensures } in
-    along (itself (c.args.a ∷ []) then (word_is_lem c.load_word-second.ensures c.in-Is.is then register) then word_is_lem c.keep_word-last.ensures c.in-Is-last.is).same c.words_four.ensures
+    let f = frame_in c.args.frame in
+    let register : Are (plain (insn_of c.word-c.result) ∷ []) _ = record { same = operate_register f c.args.op c.word-c.result c.word-c.ensures c.alu64_reg.ensures } in
+    along (itself c.args.a then (word_is_lem (c.load_word.ensures) c.in_ok-b.was then register) then word_is_lem (c.keep_word.ensures) c.in_ok-d.was).same c.words.ensures

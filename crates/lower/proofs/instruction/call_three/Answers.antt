@@ -1,35 +1,42 @@
 -- A helper that takes three operands.
 use mathlib.Core.Path.{ap, ◌∙◌}
 use mathlib.Core.List.{[], ◌∷◌}
-use Rattle.frame.specs.Hint.{frame_by}
+use Rattle.insn.specs.Layout.{insn_of}
+use Rattle.lower.specs.Op.{plain}
+use Rattle.frame.specs.Lent.{frame_in}
 use Rattle.lower.specs.Operand.{call, load}
-use Rattle.lower.proofs.Compose.{along, none_put}
+use Rattle.lower.specs.Step.{ops_in, words}
+use Rattle.lower.proofs.Compose.{along, passed_on}
 use Rattle.lower.proofs.Words.{Are, word_is_lem, word_refused, ◌then◌, stops, past}
 use Rattle.lower.proofs.instruction.call_three.Goals as goal
 
-pub returns-in_default : goal.returns-in_default
-returns-in_default c =
-    let f = frame_by c.args.variables.now c.args.hints.now in
-    none_put c.refused.ensures (past _ (past _ (past _ (past _ (word_refused (c.load_word-first.ensures ∙ ap (load f 1) c.operand_in.ensures) c.in_default.is c.reason.ensures)))))
+pub returns-in_err-a : goal.returns-in_err-a
+returns-in_err-a c =
+    let f = frame_in c.args.frame in
+    passed_on c.from_residual.ensures.1 (past _ (past _ (past _ (past _ (word_refused (c.load_word.ensures ∙ ap (load f 1) c.operand_in.ensures) c.in_err-a.was)))))
 
-pub returns-in_default-second : goal.returns-in_default-second
-returns-in_default-second c =
-    let f = frame_by c.args.variables.now c.args.hints.now in
-    none_put c.refused-in_default-second.ensures (past _ (past _ (past _ (stops (word_is_lem (c.load_word-first.ensures ∙ ap (load f 1) c.operand_in.ensures) c.in-Is.is) (word_refused (c.load_word-second.ensures ∙ ap (load f 2) c.operand_in-2.ensures) c.in_default-second.is c.reason-in_default-second.ensures)))))
+pub returns-in_err-b : goal.returns-in_err-b
+returns-in_err-b c =
+    let f = frame_in c.args.frame in
+    passed_on c.from_residual-in_err-b.ensures.1 (past _ (past _ (past _ (stops (word_is_lem (c.load_word.ensures ∙ ap (load f 1) c.operand_in.ensures) c.in_ok-a.was) (word_refused (c.load_word-2.ensures ∙ ap (load f 2) c.operand_in-2.ensures) c.in_err-b.was)))))
 
-pub returns-in_default-third : goal.returns-in_default-third
-returns-in_default-third c =
-    let f = frame_by c.args.variables.now c.args.hints.now in
-    none_put c.refused-in_default-third.ensures (past _ (past _ (stops (word_is_lem (c.load_word-first.ensures ∙ ap (load f 1) c.operand_in.ensures) c.in-Is.is then word_is_lem (c.load_word-second.ensures ∙ ap (load f 2) c.operand_in-2.ensures) c.in-Is-second.is) (word_refused (c.load_word-third.ensures ∙ ap (load f 3) c.operand_in-3.ensures) c.in_default-third.is c.reason-in_default-third.ensures))))
+pub returns-in_err-c : goal.returns-in_err-c
+returns-in_err-c c =
+    let f = frame_in c.args.frame in
+    passed_on c.from_residual-in_err-c.ensures.1 (past _ (past _ (stops (word_is_lem (c.load_word.ensures ∙ ap (load f 1) c.operand_in.ensures) c.in_ok-a.was then word_is_lem (c.load_word-2.ensures ∙ ap (load f 2) c.operand_in-2.ensures) c.in_ok-b.was) (word_refused (c.load_word-3.ensures ∙ ap (load f 3) c.operand_in-3.ensures) c.in_err-c.was))))
 
-pub returns-in_default-last : goal.returns-in_default-last
-returns-in_default-last c =
-    let f = frame_by c.args.variables.now c.args.hints.now in
-    let called : Are (c.call_word-d.result ∷ []) (call c.args.id) = record { same = c.call_word-d.ensures } in
-    none_put c.refused-in_default-last.ensures (stops (word_is_lem (c.load_word-first.ensures ∙ ap (load f 1) c.operand_in.ensures) c.in-Is.is then word_is_lem (c.load_word-second.ensures ∙ ap (load f 2) c.operand_in-2.ensures) c.in-Is-second.is then word_is_lem (c.load_word-third.ensures ∙ ap (load f 3) c.operand_in-3.ensures) c.in-Is-third.is then called) (word_refused c.keep_word-last.ensures c.in_default-last.is c.reason-in_default-last.ensures))
+pub returns-in_err-e : goal.returns-in_err-e
+unfolding words ops_in
+returns-in_err-e c =
+    let f = frame_in c.args.frame in
+    let called : Are (plain (insn_of c.call_word-d.result) ∷ []) (call c.args.id) = record { same = c.call_word-d.ensures } in
+    rw (← c.result_in.ensures)
+    (passed_on c.from_residual-in_err-e.ensures.1 (stops (word_is_lem (c.load_word.ensures ∙ ap (load f 1) c.operand_in.ensures) c.in_ok-a.was then word_is_lem (c.load_word-2.ensures ∙ ap (load f 2) c.operand_in-2.ensures) c.in_ok-b.was then word_is_lem (c.load_word-3.ensures ∙ ap (load f 3) c.operand_in-3.ensures) c.in_ok-c.was then called) (word_refused (c.keep_word.ensures) c.in_err-e.was)))
 
 pub returns : goal.returns
+unfolding words ops_in
 returns c =
-    let f = frame_by c.args.variables.now c.args.hints.now in
-    let called : Are (c.call_word-d.result ∷ []) (call c.args.id) = record { same = c.call_word-d.ensures } in
-    along (word_is_lem (c.load_word-first.ensures ∙ ap (load f 1) c.operand_in.ensures) c.in-Is.is then word_is_lem (c.load_word-second.ensures ∙ ap (load f 2) c.operand_in-2.ensures) c.in-Is-second.is then word_is_lem (c.load_word-third.ensures ∙ ap (load f 3) c.operand_in-3.ensures) c.in-Is-third.is then called then word_is_lem c.keep_word-last.ensures c.in-Is-last.is).same c.words_five.ensures
+    let f = frame_in c.args.frame in
+    let called : Are (plain (insn_of c.call_word-d.result) ∷ []) (call c.args.id) = record { same = c.call_word-d.ensures } in
+    rw (← c.result_in.ensures)
+    (along (word_is_lem (c.load_word.ensures ∙ ap (load f 1) c.operand_in.ensures) c.in_ok-a.was then word_is_lem (c.load_word-2.ensures ∙ ap (load f 2) c.operand_in-2.ensures) c.in_ok-b.was then word_is_lem (c.load_word-3.ensures ∙ ap (load f 3) c.operand_in-3.ensures) c.in_ok-c.was then called then word_is_lem (c.keep_word.ensures) c.in_ok-e.was).same c.words.ensures)

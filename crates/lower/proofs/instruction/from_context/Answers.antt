@@ -3,22 +3,23 @@ use mathlib.Core.Path.{ap, ◌∙◌}
 use mir.Syntax.{w32}
 use mir.ValLaws.{to_z-of_z}
 use Rattle.lower.specs.Instruction.{from_context}
-use Rattle.lower.proofs.Compose.{along, none_put}
+use Rattle.lower.specs.Step.{ops_in, words}
+use Rattle.lower.proofs.Compose.{along, passed_on}
 use Rattle.lower.proofs.Pieces.{context_load}
 use Rattle.lower.proofs.Words.{word_is_lem, word_refused, ◌then◌, stops, past}
 use Rattle.lower.proofs.instruction.from_context.Goals as goal
 
-pub returns-in_default : goal.returns-in_default
+pub returns-in_err-a : goal.returns-in_err-a
 unfolding from_context
-returns-in_default c =
-    none_put c.refused.ensures (past _ (word_refused (c.load_context-first.ensures ∙ ap (context_load c.args.size) (to_z-of_z w32 c.args.offset c.ranges.offset)) c.in_default.is c.reason.ensures))
+returns-in_err-a c =
+    passed_on c.from_residual.ensures.1 (past _ (word_refused (c.load_context.ensures ∙ ap (context_load c.args.size) (to_z-of_z w32 c.args.offset c.ranges.offset)) c.in_err-a.was))
 
-pub returns-in_default-last : goal.returns-in_default-last
+pub returns-in_err-b : goal.returns-in_err-b
 unfolding from_context
-returns-in_default-last c =
-    none_put c.refused-in_default-last.ensures (stops (word_is_lem (c.load_context-first.ensures ∙ ap (context_load c.args.size) (to_z-of_z w32 c.args.offset c.ranges.offset)) c.in-Is.is) (word_refused c.keep_word-last.ensures c.in_default-last.is c.reason-in_default-last.ensures))
+returns-in_err-b c =
+    rw (← c.result_in.ensures) (passed_on c.from_residual-in_err-b.ensures.1 (stops (word_is_lem (c.load_context.ensures ∙ ap (context_load c.args.size) (to_z-of_z w32 c.args.offset c.ranges.offset)) c.in_ok-a.was) (word_refused (c.keep_word.ensures) c.in_err-b.was)))
 
 pub returns : goal.returns
-unfolding from_context
+unfolding from_context words ops_in
 returns c =
-    along (word_is_lem (c.load_context-first.ensures ∙ ap (context_load c.args.size) (to_z-of_z w32 c.args.offset c.ranges.offset)) c.in-Is.is then word_is_lem c.keep_word-last.ensures c.in-Is-last.is).same c.words_two.ensures
+    rw (← c.result_in.ensures) (along (word_is_lem (c.load_context.ensures ∙ ap (context_load c.args.size) (to_z-of_z w32 c.args.offset c.ranges.offset)) c.in_ok-a.was then word_is_lem (c.keep_word.ensures) c.in_ok-b.was).same c.words.ensures)

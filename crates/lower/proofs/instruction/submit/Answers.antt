@@ -1,20 +1,35 @@
 -- RingBufSubmit.
+use mathlib.Core.Path.{◌∙◌}
 use Rattle.wire.specs.Range.{fits32}
 use Rattle.insn.specs.Form.{opcode_of}
 use Rattle.lower.specs.Op.{insn}
 use Rattle.lower.specs.Operand.{constant, call}
+use Rattle.lower.specs.Payload.{operands_of}
 use Rattle.lower.specs.Instruction.{opcode}
-use Rattle.lower.specs.Step.{one, map_ops}
+use Rattle.lower.specs.Step.{one, map_ops, chain}
 use Rattle.lower.proofs.Counts.{first_is, no_first}
-use Rattle.lower.proofs.Compose.{along, none_put, five}
+use Rattle.lower.proofs.Compose.{along, none_put, passed_on}
+use Rattle.lower.proofs.Words.{known, piece_is, piece_refused, ◌then◌, stops, past}
 use Rattle.lower.proofs.instruction.submit.Goals as goal
 
 pub returns-then-n-eq0 : goal.returns-then-n-eq0
-unfolding opcode
-returns-then-n-eq0 c = none_put c.refused.ensures (no_first c.args.payload.now 16 c.args.n _ c.if-n-eq0.true)
+unfolding opcode operands_of
+returns-then-n-eq0 c =
+    rw (← c.count_in-n.ensures) (none_put (no_first c.args.payload.now 16 c.count_in-n.result _ c.if-n-eq0.true))
+
+pub returns-in_err-load : goal.returns-in_err-load
+unfolding opcode operands_of
+returns-in_err-load c =
+    rw (← c.count_in-n.ensures) (passed_on c.from_residual.ensures.1 (past _ (past _ (past _ (past _ (piece_refused c.load.ensures c.in_err-load.was)))) ∙ first_is c.args.payload.now 16 c.count_in-n.result _ c.operand_in-a.ensures c.if-n-eq0.false))
+
+pub returns-in_err-keep : goal.returns-in_err-keep
+unfolding opcode operands_of call constant fits32 insn opcode_of one
+returns-in_err-keep c =
+    rw (← c.count_in-n.ensures, ← c.result_in.ensures)
+    (passed_on c.from_residual-in_err-keep.ensures.1 (stops (piece_is c.load.ensures c.in_ok-load.was then known c.plain.ensures then known c.plain-2.ensures then known c.plain-3.ensures) (piece_refused c.keep.ensures c.in_err-keep.was) ∙ first_is c.args.payload.now 16 c.count_in-n.result _ c.operand_in-a.ensures c.if-n-eq0.false))
 
 pub returns : goal.returns
-unfolding opcode map_ops call constant fits32 insn opcode_of one
+unfolding opcode operands_of call constant fits32 insn opcode_of one map_ops chain
 returns c =
-    along (first_is c.args.payload.now 16 c.args.n _ c.operand_in-a.ensures c.if-n-eq0.false)
-    (five c.five.ensures c.load.ensures c.plain.ensures c.plain-2.ensures c.plain-3.ensures c.keep.ensures)
+    rw (← c.count_in-n.ensures, ← c.result_in.ensures)
+    (along ((piece_is c.load.ensures c.in_ok-load.was then known c.plain.ensures then known c.plain-2.ensures then known c.plain-3.ensures then piece_is c.keep.ensures c.in_ok-keep.was).same ∙ first_is c.args.payload.now 16 c.count_in-n.result _ c.operand_in-a.ensures c.if-n-eq0.false) c.pieces.ensures)

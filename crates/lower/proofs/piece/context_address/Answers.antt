@@ -5,10 +5,10 @@ use Rattle.insn.specs.Rfc.{operation_of}
 use Rattle.insn.specs.Form.{opcode_of}
 use Rattle.lower.specs.Op.{insn, ◌▸◌}
 use Rattle.lower.specs.Operand.{move, add}
-use Rattle.lower.specs.Step.{piece_of, outcome_of, ops_of, all}
+use Rattle.lower.specs.Step.{ops_of}
 use Rattle.lower.proofs.piece.context_address.Goals as goal
 
 pub returns : goal.returns
-unfolding piece_of outcome_of ops_of all move add insn opcode_of operation_of ◌▸◌
+unfolding ops_of move add insn opcode_of operation_of ◌▸◌
 returns c =
     rw (c.word-from.ensures, c.word-plus.ensures, back w32 c.args.offset c.ranges.offset.sfits)

@@ -8,10 +8,10 @@ use Rattle.lower.specs.Operand.{keep, on_cell}
 use Rattle.lower.specs.Step.{ops_in, words, word_is}
 use Rattle.lower.proofs.piece.keep_word.Goals as goal
 
-pub returns-in-At : goal.returns-in-At
+pub returns-in-Some : goal.returns-in-Some
 unfolding word_is words ops_in keep on_cell insn opcode_of size_field
-returns-in-At c = rw (c.word.ensures, ← c.cell_at.ensures, c.in-At.is, back w16 c.in-At.offset c.in-At.known_told-1-own.given.0.1)
+returns-in-Some c = rw (c.word.ensures, ← c.cell.ensures, c.in-Some.is, back w16 c.in-Some.offset c.in-Some.known_told-1-own.given.0.1)
 
-pub returns-in-Missing : goal.returns-in-Missing
+pub returns-in-None : goal.returns-in-None
 unfolding word_is keep on_cell
-returns-in-Missing c = rw (← c.cell_at.ensures, c.in-Missing.is)
+returns-in-None c = rw (← c.cell.ensures, c.in-None.is)

@@ -27,7 +27,7 @@ returns-then-fits16 c =
     let h = c.ranges.offset.sfits in
     let w = cast_is w32 w64 c.args.offset c.ranges.offset (record { sfits = omega arith }) in
     let e = ap fits16 (sym w) ∙ sym c.fits16.ensures ∙ c.if-fits16.true in
-    rw (c.word.ensures, ← c.ldx_mem.ensures, c.in-Code.is, cast_is w32 w16 c.args.offset c.ranges.offset (in16 c.args.offset e), e)
+    rw (c.word.ensures, ← c.ldx_mem.ensures, c.in-Some.is, cast_is w32 w16 c.args.offset c.ranges.offset (in16 c.args.offset e), e)
 
 pub returns-else-fits16 : goal.returns-else-fits16
 unfolding word_is sized
@@ -35,8 +35,8 @@ returns-else-fits16 c =
     let h = c.ranges.offset.sfits in
     let w = cast_is w32 w64 c.args.offset c.ranges.offset (record { sfits = omega arith }) in
     let e = ap fits16 (sym w) ∙ sym c.fits16.ensures ∙ c.if-fits16.false in
-    rw (← c.ldx_mem.ensures, c.in-Code.is, to_z-of_z w32 c.args.offset c.ranges.offset, e)
+    rw (← c.ldx_mem.ensures, c.in-Some.is, to_z-of_z w32 c.args.offset c.ranges.offset, e)
 
-pub returns-in-Unsupported : goal.returns-in-Unsupported
+pub returns-in-None : goal.returns-in-None
 unfolding word_is sized
-returns-in-Unsupported c = rw (← c.ldx_mem.ensures, c.in-Unsupported.is)
+returns-in-None c = rw (← c.ldx_mem.ensures, c.in-None.is)

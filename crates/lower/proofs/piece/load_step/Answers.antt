@@ -13,10 +13,10 @@ pub returns-in-Immediate : goal.returns-in-Immediate
 unfolding load with_constant constant one insn opcode_of
 returns-in-Immediate c = c.with_constant.ensures ∙ rw (c.in-Immediate.is, back w64 c.in-Immediate.z c.in-Immediate.known_told-1-own.given.0.1)
 
-pub returns-in-At : goal.returns-in-At
+pub returns-in-Some : goal.returns-in-Some
 unfolding step_of load on_cell insn opcode_of size_field
-returns-in-At c = rw (c.in-Var.is, ← c.cell_at.ensures, c.in-At.is, back w16 c.in-At.offset c.in-At.known_told-in-At-1-own.given.0.1)
+returns-in-Some c = rw (c.in-Var.is, ← c.cell.ensures, c.in-Some.is, back w16 c.in-Some.offset c.in-Some.known_told-in-Some-1-own.given.0.1)
 
-pub returns-in-Missing : goal.returns-in-Missing
+pub returns-in-None : goal.returns-in-None
 unfolding step_of load on_cell
-returns-in-Missing c = rw (c.in-Var.is, ← c.cell_at.ensures, c.in-Missing.is)
+returns-in-None c = rw (c.in-Var.is, ← c.cell.ensures, c.in-None.is)

@@ -3,13 +3,13 @@ use Rattle.wire.specs.Range.{fits32}
 use Rattle.insn.specs.Form.{opcode_of}
 use Rattle.lower.specs.Op.{insn, ◌▸◌}
 use Rattle.lower.specs.Operand.{constant}
-use Rattle.lower.specs.Step.{piece_of, outcome_of, ops_of, all, null_test}
+use Rattle.lower.specs.Step.{ops_of, null_test}
 use Rattle.lower.proofs.piece.null_test.Goals as goal
 
 pub returns-then-condition : goal.returns-then-condition
-unfolding piece_of outcome_of ops_of all null_test constant fits32 insn opcode_of ◌▸◌
+unfolding ops_of null_test constant fits32 insn opcode_of ◌▸◌
 returns-then-condition c = rw (c.if-condition.true, c.jump_by.ensures, c.set_r0.ensures)
 
 pub returns : goal.returns
-unfolding piece_of outcome_of ops_of all null_test constant fits32 insn opcode_of ◌▸◌
+unfolding ops_of null_test constant fits32 insn opcode_of ◌▸◌
 returns c = rw (c.if-condition.false, c.jump_by-2.ensures, c.jump_by-3.ensures)

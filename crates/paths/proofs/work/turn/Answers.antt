@@ -1,24 +1,27 @@
 -- `turn` takes a slot from the set, and visits it where it waits.
-use native.Mathlib.Omega.{arith}
-use Rattle.paths.proofs.Steps.{took, took_less, took_none, took_past}
+use Rattle.std.proofs.Common.{◌<◌, get_or, sym, ◌∙◌, arith}
+use Rattle.paths.proofs.Steps.{Taken, took, took_less, took_none, past_none, same_slot}
 use Rattle.paths.proofs.work.turn.Goals as goal
+use Rattle.paths.proofs.work.turn.Goals.{After-take, else-v-t-via-then-v-t+else-t-v-ge4096, else-v-t-via-else-v-t}
 
-pub visit-requires : goal.visit-requires
-visit-requires c =
-    let W = c.requires.work in record { t_len_bound = c.requires.t_len_bound; table = W.table; kept = took c.args.code.now c.args.t.now c.args.d.now c.args.s.now c.args.top W (c.take-w.ensures.value, (c.take-w.ensures.d_after, c.take-w.ensures.s_after)); v_in_bounds = (c.if-v-t.true, c.if-t-v-ge4096.true) }
+taken : (c : After-take) → Taken c.args.work.now c.take.new.self c.take.result
+taken c = let e = c.take.ensures in record { value = e.value; low = e.low; mid = e.mid; top = e.top }
 
-pub returns-then-t-v-ge4096 : goal.returns-then-t-v-ge4096
-returns-then-t-v-ge4096 c =
-    let W = c.requires.work in record { work_2 = c.visit.ensures.work; result_bound = omega (arith, c.visit.ensures.result_bound, took_less c.args.code.now c.args.t.now c.args.d.now c.args.s.now c.args.top W (c.take-w.ensures.value, (c.take-w.ensures.d_after, c.take-w.ensures.s_after)) c.requires.top_nonzero) }
+pub visit-requires-clause-kept : goal.visit-requires-clause-kept
+visit-requires-clause-kept c =
+    took c.args.code.now c.args.t.now c.args.work.now c.requires.work (taken (goal.at.visit-requires-clause-kept c).After-take) c.in-Some.v c.in-Some.is
 
-pub returns-else-t-v-ge4096 : goal.returns-else-t-v-ge4096
-returns-else-t-v-ge4096 c =
-    let W = c.requires.work in
-    let shown = took_none c.args.code.now c.args.t.now c.args.d.now c.args.s.now c.args.top W (c.take-w.ensures.value, (c.take-w.ensures.d_after, c.take-w.ensures.s_after)) c.requires.top_nonzero c.if-t-v-ge4096.false in
-    record { work_2 = shown.0; result_bound = shown.1 }
+pub returns-then-t-v-ge4096-clause-result_bound : goal.returns-then-t-v-ge4096-clause-result_bound
+returns-then-t-v-ge4096-clause-result_bound c =
+    omega (arith, c.visit.ensures.result_bound, took_less c.args.code.now c.args.t.now c.args.work.now c.requires.work (taken (goal.at.returns-then-t-v-ge4096-clause-result_bound c).After-take) c.requires.top_nonzero)
 
 pub returns-else-v-t : goal.returns-else-v-t
 returns-else-v-t c =
-    let W = c.requires.work in
-    let shown = took_past c.args.code.now c.args.t.now c.args.d.now c.args.s.now c.args.top W (c.take-w.ensures.value, (c.take-w.ensures.d_after, c.take-w.ensures.s_after)) c.requires.top_nonzero c.if-v-t.false in
+    let low : get_or c.args.t.now c.in-Some.v 0 < 4096 = elim c.else-v-t.branch [ else-v-t-via-then-v-t+else-t-v-ge4096 w ↦ omega arith | else-v-t-via-else-v-t w ↦ past_none c.args.t.now c.in-Some.v w.if-v-t.false ] in
+    let shown = took_none c.args.code.now c.args.t.now c.args.work.now c.requires.work (taken (goal.at.returns-else-v-t c).After-take) c.requires.top_nonzero (λ v e. rw (same_slot (sym e ∙ c.in-Some.is)) low) in
+    record { work_2 = shown.0; result_bound = shown.1 }
+
+pub returns-in_default : goal.returns-in_default
+returns-in_default c =
+    let shown = took_none c.args.code.now c.args.t.now c.args.work.now c.requires.work (taken (goal.at.returns-in_default c).After-take) c.requires.top_nonzero (λ v e. absurd (c.in_default.not-Some v e)) in
     record { work_2 = shown.0; result_bound = shown.1 }

@@ -1,39 +1,20 @@
 use mathlib.Core.Path.{sym, ◌∙◌}
-use native.Mathlib.Omega.{arith}
 use Rattle.shape.specs.Code.{slots}
-use Rattle.shape.proofs.Relocs.{pair_exact, left_all, left_narrow, left_wide, left_differs, left_end, left_over}
+use Rattle.shape.proofs.Relocs.{left_all, left_narrow, left_wide, left_differs, left_end, left_over}
 use Rattle.shape.proofs.pairs.compared.Goals as goal
 
 pub loop-s-init : goal.loop-s-init
 loop-s-init c = left_all _ _
-
-pub overflow_cast-s : goal.overflow_cast-s
-unfolding slots
-overflow_cast-s c = omega arith
-
-pub pair_at-pair-requires : goal.pair_at-pair-requires
-unfolding slots
-pair_at-pair-requires c = omega arith
 
 pub returns-in_default : goal.returns-in_default
 unfolding slots
 returns-in_default c = let l = c.loop-s in
     c.in_default.is ∙ left_differs _ _ l.s l.k l.invariant _ c.loop-s-test.true (sym c.is_wide.ensures ∙ c.if-is_wide.true) (sym c.pair_at-pair.ensures ∙ c.in_default.is)
 
-pub overflow_add-k : goal.overflow_add-k
-overflow_add-k c = let l = c.loop-s in
-    omega (arith, pair_exact _ l.k l.s (sym c.pair_at-pair.ensures ∙ c.in-Exact.is))
-
-pub loop-s-smaller-then-is_wide : goal.loop-s-smaller-then-is_wide
-loop-s-smaller-then-is_wide c = omega arith
-
 pub loop-s-preserved-then-is_wide : goal.loop-s-preserved-then-is_wide
 unfolding slots
 loop-s-preserved-then-is_wide c = let l = c.loop-s in
-    left_wide _ _ l.s l.k l.invariant c.loop-s-test.true (sym c.is_wide.ensures ∙ c.if-is_wide.true) (sym c.pair_at-pair.ensures ∙ c.in-Exact.is)
-
-pub loop-s-smaller : goal.loop-s-smaller
-loop-s-smaller c = omega arith
+    left_wide _ _ l.s l.k l.invariant c.loop-s-test.true (sym c.is_wide.ensures ∙ c.if-is_wide.true) (sym c.pair_at-pair.ensures ∙ c.in-Ok.is)
 
 pub loop-s-preserved : goal.loop-s-preserved
 unfolding slots

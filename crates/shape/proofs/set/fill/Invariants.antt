@@ -4,7 +4,7 @@ use Rattle.shape.proofs.Members.{Filled}
 use Rattle.shape.proofs.set.fill.Given as goal
 
 abbrev pub invariant-loop-s : goal.invariant-loop-s
-invariant-loop-s l = Filled l.code l.set l.s
+invariant-loop-s l = Filled l.code l.words l.s
 
 abbrev pub decreases-loop-s : goal.decreases-loop-s
 decreases-loop-s l = l.n - l.s

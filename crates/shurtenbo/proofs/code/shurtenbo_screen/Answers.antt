@@ -4,10 +4,10 @@ use Rattle.shurtenbo.specs.Answer.{numbers_of}
 use Rattle.shurtenbo.specs.Code.{verdict_numbers}
 use Rattle.shurtenbo.proofs.code.shurtenbo_screen.Goals as goal
 
-pub returns-in-Yes : goal.returns-in-Yes
+pub returns-in-Ok : goal.returns-in-Ok
 unfolding verdict_numbers
-returns-in-Yes c = record { verdict = _; screened = c.screen.ensures; told = rw c.in-Yes.is c.done.ensures }
+returns-in-Ok c = record { verdict = _; screened = c.screen.ensures; told = rw c.in-Ok.is c.done.ensures }
 
-pub returns-in-Refused : goal.returns-in-Refused
+pub returns-in-Err : goal.returns-in-Err
 unfolding verdict_numbers
-returns-in-Refused c = record { verdict = _; screened = c.screen.ensures; told = rw c.in-Refused.is (c.refused.ensures ∙ ap numbers_of c.refusal.ensures) }
+returns-in-Err c = record { verdict = _; screened = c.screen.ensures; told = rw c.in-Err.is (c.refused.ensures ∙ ap numbers_of c.refusal.ensures) }

@@ -4,10 +4,10 @@ use Rattle.shurtenbo.specs.Answer.{numbers_of}
 use Rattle.shurtenbo.specs.Records.{written_numbers}
 use Rattle.shurtenbo.proofs.records.tell_written.Goals as goal
 
-pub returns-in-Bytes : goal.returns-in-Bytes
+pub returns-in-Ok : goal.returns-in-Ok
 unfolding written_numbers
-returns-in-Bytes c = rw c.in-Bytes.is c.done.ensures
+returns-in-Ok c = rw c.in-Ok.is c.done.ensures
 
-pub returns-in-Refused : goal.returns-in-Refused
+pub returns-in-Err : goal.returns-in-Err
 unfolding written_numbers
-returns-in-Refused c = rw c.in-Refused.is (c.refused.ensures ∙ ap numbers_of c.refusal.ensures)
+returns-in-Err c = rw c.in-Err.is (c.refused.ensures ∙ ap numbers_of c.refusal.ensures)

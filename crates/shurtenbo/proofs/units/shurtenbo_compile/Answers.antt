@@ -4,12 +4,12 @@ use Rattle.shurtenbo.specs.Answer.{numbers_of}
 use Rattle.shurtenbo.specs.Units.{compiled_numbers}
 use Rattle.shurtenbo.proofs.units.shurtenbo_compile.Goals as goal
 
-pub returns-in-Done : goal.returns-in-Done
+pub returns-in-Ok : goal.returns-in-Ok
 unfolding compiled_numbers
-returns-in-Done c =
-    record { answer_after = c.done.ensures ∙ ap compiled_numbers (sym c.in-Done.is ∙ c.compile_tracepoint.ensures.value); code_after = c.compile_tracepoint.ensures.code_after; relocs_after = c.compile_tracepoint.ensures.relocs_after }
+returns-in-Ok c =
+    record { answer_after = c.done.ensures ∙ ap compiled_numbers (sym c.in-Ok.is ∙ c.compile_tracepoint.ensures.value); code_after = c.compile_tracepoint.ensures.code_after; relocs_after = c.compile_tracepoint.ensures.relocs_after }
 
-pub returns-in-Refused : goal.returns-in-Refused
+pub returns-in-Err : goal.returns-in-Err
 unfolding compiled_numbers
-returns-in-Refused c =
-    record { answer_after = c.refused.ensures ∙ ap numbers_of c.refusal.ensures ∙ ap compiled_numbers (sym c.in-Refused.is ∙ c.compile_tracepoint.ensures.value); code_after = c.compile_tracepoint.ensures.code_after; relocs_after = c.compile_tracepoint.ensures.relocs_after }
+returns-in-Err c =
+    record { answer_after = c.refused.ensures ∙ ap numbers_of c.refusal.ensures ∙ ap compiled_numbers (sym c.in-Err.is ∙ c.compile_tracepoint.ensures.value); code_after = c.compile_tracepoint.ensures.code_after; relocs_after = c.compile_tracepoint.ensures.relocs_after }

@@ -10,4 +10,4 @@ pub returns : goal.returns
 returns c =
     let n = c.args.n in
     let same : n - 0 ≡ n = omega arith in
-    c.index_at.ensures ∙ ap (λ (k : ℕ). index_by (take k c.args.variables.now) c.args.hints.now c.args.v) same
+    c.index.ensures ∙ ap (λ (k : ℕ). index_by (take k c.args.variables.now) c.args.hints.now c.args.v) same

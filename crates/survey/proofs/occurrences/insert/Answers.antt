@@ -6,14 +6,14 @@ use Rattle.survey.proofs.occurrences.insert.Goals as goal
 
 pub guess_anew-requires : goal.guess_anew-requires
 guess_anew-requires c =
-    fits _ _ c.args.place c.args.v c.requires.holds c.requires.count_bound _ (sym c.insert.ensures.value ∙ c.in-Count.is)
+    fits _ _ c.args.place c.args.v c.requires.holds c.requires.count_bound _ (sym c.insert.ensures.value ∙ c.in-Some.is)
 
-pub returns-in-Count : goal.returns-in-Count
+pub returns-in-Some : goal.returns-in-Some
 unfolding of_operand
-returns-in-Count c =
-    counts _ _ c.args.place c.args.v c.requires.holds c.requires.count_bound _ (sym c.insert.ensures.value ∙ c.in-Count.is) c.insert.ensures.variables_after
+returns-in-Some c =
+    counts _ _ c.args.place c.args.v c.requires.holds c.requires.count_bound _ (sym c.insert.ensures.value ∙ c.in-Some.is) c.insert.ensures.variables_after
 
-pub returns-in-Full : goal.returns-in-Full
+pub returns-in-None : goal.returns-in-None
 unfolding of_operand
-returns-in-Full c =
-    overflows _ _ c.args.place c.args.v c.requires.holds c.requires.count_bound (sym c.insert.ensures.value ∙ c.in-Full.is) c.insert.ensures.variables_after
+returns-in-None c =
+    overflows _ _ c.args.place c.args.v c.requires.holds c.requires.count_bound (sym c.insert.ensures.value ∙ c.in-None.is) c.insert.ensures.variables_after

@@ -4,5 +4,8 @@ use Rattle.tracepoint.proofs.context.note.Goals as goal
 
 pub returns : goal.returns
 returns c =
-    let t = c.terminator_in-t.ensures in
-    let marked = c.mark_condition.ensures in rw (← t) (record { notes = record { marks = marked; counts = rw c.count_of.ensures; targets = rw (c.first_target-a.ensures, c.second_target-b.ensures, add-one) }; notes_2 = record { marks = marked; counts = rw c.count_of.ensures; targets = rw (c.first_target-a.ensures, c.second_target-b.ensures, add-one) } })
+    let marked = c.mark_condition.ensures in
+    record {
+      notes = record { marks = marked; counts = rw c.count_of.ensures; targets = rw (c.first_target-a.ensures, c.second_target-b.ensures, add-one) };
+      notes_2 = record { marks = marked; counts = rw c.count_of.ensures; targets = rw (c.first_target-a.ensures, c.second_target-b.ensures, add-one) };
+    }

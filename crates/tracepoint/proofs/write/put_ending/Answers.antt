@@ -4,7 +4,7 @@ use Rattle.insn.specs.Form.{opcode_of}
 use Rattle.lower.specs.Op.{slots_of, insn, ◌▸◌}
 use Rattle.lower.specs.Held.{ending_ops}
 use Rattle.layout.specs.Layout.{at, ops}
-use Rattle.passes.proofs.Put.{jump_reaches, branch_reaches, puts_none, puts_return, puts_jump, puts_branch}
+use Rattle.passes.proofs.Put.{jump_reaches, branch_reaches, puts_return, puts_jump, puts_branch}
 use Rattle.tracepoint.proofs.write.put_ending.Goals as goal
 
 pub put-requires : goal.put-requires
@@ -43,10 +43,6 @@ pub put-requires-in-Branch-3 : goal.put-requires-in-Branch-3
 unfolding ending_ops ◌▸◌ insn at ops slots_of
 put-requires-in-Branch-3 c = let room = rw c.in-Branch.is at c.requires.t_bound in omega arith
 
-pub overflow_add-result-in-Branch : goal.overflow_add-result-in-Branch
-unfolding ending_ops ◌▸◌ insn at ops slots_of
-overflow_add-result-in-Branch c = let room = rw c.in-Branch.is at c.requires.t_bound in omega arith
-
 pub returns-in-Return : goal.returns-in-Return
 unfolding opcode_of ending_ops ◌▸◌ insn at ops
 returns-in-Return c = rw c.in-Return.is (λ rs. puts_return _ _ _ _ _ rs _ _ c.put.ensures c.put-in-Return.ensures)
@@ -58,7 +54,3 @@ returns-in-Jump c = rw c.in-Jump.is (λ rs. puts_jump _ _ _ _ _ rs _ c.jump.ensu
 pub returns-in-Branch : goal.returns-in-Branch
 unfolding opcode_of ending_ops ◌▸◌ insn at ops
 returns-in-Branch c = rw c.in-Branch.is (λ rs. puts_branch _ _ _ _ _ rs _ _ _ c.jump-in-Branch.ensures c.jump-in-Branch-2.ensures c.put-in-Branch.ensures c.put-in-Branch-2.ensures c.put-in-Branch-3.ensures)
-
-pub returns-in-Refused : goal.returns-in-Refused
-unfolding opcode_of ending_ops ◌▸◌ insn at ops
-returns-in-Refused c = rw c.in-Refused.is (λ rs. puts_none _ _ _ _ _ rs)

@@ -2,14 +2,14 @@
 use mathlib.Core.Path.{◌≡◌}
 use Prim.Native.Nat.{◌-◌}
 use lib.ListN.{length}
-use Rattle.passes.specs.Inner.{context_of}
+use Rattle.tracepoint.specs.Lent.{context_in}
 use Rattle.passes.specs.Places.{places, ops_at, ring_at}
 use Rattle.passes.proofs.Writing.{Putting}
 use Rattle.tracepoint.proofs.write.put_instructions.Given as goal
 
 abbrev pub invariant-loop-at : goal.invariant-loop-at
 invariant-loop-at l =
-    Putting (context_of l.variables l.hints l.marks) l.unit l.end (ops_at (context_of l.variables l.hints l.marks) l.unit l.scratch (places l.unit l.first l.end)) (ring_at (context_of l.variables l.hints l.marks) l.unit l.scratch (places l.unit l.first l.end)) l.initial.passed.front.slot.0 l.initial.passed.front.relocs l.initial.code l.initial.relocs
+    Putting (context_in l.context) l.unit l.end (ops_at (context_in l.context) l.unit l.initial.passed.scratch (places l.unit l.first l.end)) (ring_at (context_in l.context) l.unit l.initial.passed.scratch (places l.unit l.first l.end)) l.initial.passed.front.slot.0 l.initial.passed.front.relocs l.initial.code l.initial.relocs
     l.at l.passed.scratch l.passed.front.slot.0 l.passed.front.relocs l.code l.relocs
     × (length l.code ≡ length l.initial.code) × (length l.relocs ≡ length l.initial.relocs)
 

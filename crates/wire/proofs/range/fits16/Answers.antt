@@ -1,13 +1,10 @@
 -- `fits16` tells the range of i16.
-use mir.Syntax.{w64}
+use mathlib.Core.Path.{◌∙◌}
+use mir.Syntax.{w16, w64}
 use Rattle.wire.specs.Range.{fits16}
-use Rattle.wire.proofs.InRange.{below, not_below}
+use Rattle.wire.proofs.InRange.{told}
 use Rattle.wire.proofs.range.fits16.Goals as goal
-
-pub returns-then-z-ltminus32768 : goal.returns-then-z-ltminus32768
-unfolding fits16
-returns-then-z-ltminus32768 c = below w64 c.args.z 32767 c.ranges.z c.if-z-ltminus32768.true
 
 pub returns : goal.returns
 unfolding fits16
-returns c = not_below w64 c.args.z 32767 c.ranges.z c.if-z-ltminus32768.false
+returns c = c.is_ok.ensures.value ∙ told w64 w16 c.args.z c.try_from.result _ c.ranges.z c.try_from.ensures

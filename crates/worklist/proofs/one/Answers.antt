@@ -1,6 +1,0 @@
--- `worklist::one` is a power of 2.
-use Rattle.wire.proofs.Bits.{shl_one}
-use Rattle.worklist.proofs.one.Goals as goal
-
-pub returns : goal.returns
-returns c = shl_one c.args.k 64 c.requires
