@@ -130,6 +130,7 @@ fn has_room(n: usize, ids: usize, counts: usize, targets: usize, emitted: usize)
 // For the first n blocks: ids; how many targets each has (0, 1, or 2 for more); their ids at 2i and 2i + 1.
 // Each target's id becomes the number of the last block that has it, 1,024 for none; emitted becomes 1 for each block whose id is reached, else 0.
 // Where there are more than 1,024 blocks, or a table does not hold n, nothing changes.
+// Numbers and bytes, and no Options or bools: the promise names these lists as they are lent.
 pub fn link(n: usize, ids: &[u32], counts: &[u8], targets: &mut [u32], emitted: &mut [u8])
     ensures targets_after { targets.new ≡ pick (room n ids.now counts.now targets.old emitted.old) (linked_targets n ids.now targets.old) targets.old }
     ensures emitted_after { emitted.new ≡ pick (room n ids.now counts.now targets.old emitted.old) (linked_flags n ids.now counts.now targets.old emitted.old) emitted.old }

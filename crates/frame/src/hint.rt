@@ -4,7 +4,6 @@ ghost use Rattle.frame.specs.Hint.{index_from, hints_of};
 ghost use Rattle.frame.specs.Lent.{index_in, frame_in};
 
 use crate::{cell_by_index, offset};
-use wire::range::wide8;
 
 // The first index of v, or the number of variables for none.
 fn find(variables: &[u32], v: u32) -> usize
@@ -29,11 +28,9 @@ impl Frame<'_> {
         ensures { result ≡ index_in self.entry v }
     {
         let variables = self.variables;
-        let guess = wide8(self.hints[(v % 256) as usize]);
-        if guess < variables.len() {
-            if v == variables[guess] {
-                return guess;
-            }
+        let guess = usize::from(self.hints[(v % 256) as usize]);
+        if guess < variables.len() && v == variables[guess] {
+            return guess;
         }
         find(variables, v)
     }

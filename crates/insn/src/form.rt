@@ -17,6 +17,7 @@ pub enum Size {
     Dw,
 }
 
+// `NoForm` and no Option: each rule has a row for it as for the other forms.
 #[derive(Clone, Copy)]
 pub enum Form {
     NoForm,

@@ -1,5 +1,5 @@
 -- What a chain of pieces becomes, composed as the code is.
-use mathlib.Core.Path.{◌≡◌, refl, sym, ap, ap₂, ◌∙◌}
+use mathlib.Core.Path.{◌≡◌, refl, ap, ap₂}
 use mathlib.Core.List.{List, [], append_assoc}
 use Prim.Native.Nat.{ℕ}
 use Rattle.lower.specs.Op.{Lowered, becomes, refused, ◌▸◌}

@@ -9,12 +9,11 @@ use Rattle.std.proofs.lemmas.List.{take_more}
 use Rattle.wire.specs.Le.{le, bytes_of as lowest, unsigned_at, signed_at, unsigned_bytes, store}
 use Rattle.insn.specs.Layout.{bytes_of, insn_at, insn_of}
 use Rattle.insn.specs.declared.Insn.{Insn}
-use Rattle.lower.specs.Op.{Op, plain, map, ja, jne, Lowered, becomes, refused, slots_of, ◌▸◌}
+use Rattle.lower.specs.Op.{Op, plain, map, ja, jne, Lowered, becomes, refused, slots_of}
 use Rattle.lower.specs.Put.{wide_insn, zero_insn, insns_in, put_at, put_lowered}
 use Rattle.lower.specs.Held.{map_in, held}
 use Rattle.lower.specs.Step.{chain, step_of, ops_of, map_ops, Holds, PutPiece, Puts}
 use Rattle.lower.specs.declared.Reason.{Reason}
-use Rattle.lower.specs.declared.Emitted.{Emitted}
 use Rattle.lower.specs.declared.piece.Piece.{Piece}
 use Rattle.lower.specs.declared.piece.Piece.TheVariants as P
 use Rattle.std.specs.Prelude.{Err, None, Ok, Option, Result, Some}

@@ -1,5 +1,5 @@
 -- What each instruction becomes.
-use Rattle.std.specs.Prelude.{ℕ, suc, ◌+◌, Bool, true, false, List, [], ◌∷◌, eqb, ℤ, pos, length, None, Option, Some}
+use Rattle.std.specs.Prelude.{ℕ, Bool, true, false, List, [], ◌∷◌, eqb, ℤ, pos, length, None, Option, Some}
 use Rattle.wire.specs.Pick.{pick, either}
 use Rattle.wire.specs.Range.{fits16, fits32}
 use Rattle.ir.specs.Operands.{list_of}
@@ -12,7 +12,7 @@ use Rattle.ir.specs.declared.Instruction.{Instruction}
 use Rattle.insn.specs.Rfc.{LDX, STX}
 use Rattle.insn.specs.Form.{mem_code}
 use Rattle.insn.specs.declared.form.Size.TheVariants.{Dw}
-use Rattle.insn.specs.declared.form.Form.TheVariants.{Ldx, AluImm, AluReg, MovImm, Ja, JeqImm, Exit}
+use Rattle.insn.specs.declared.form.Form.TheVariants.{Ldx, AluImm, AluReg, Ja, JeqImm, Exit}
 use Rattle.frame.specs.Cell.{Frame}
 use Rattle.lower.specs.Op.{Lowered, becomes, refused, plain, insn, ◌▸◌}
 use Rattle.lower.specs.Operand.{constant, move, add, call, load, addr, next, keep, map_address}

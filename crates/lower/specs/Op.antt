@@ -1,6 +1,5 @@
 -- What an instruction or a terminator becomes: a list of operations, or the reason why it is refused.
-use Rattle.std.specs.Prelude.{ℕ, suc, ◌+◌, List, [], ◌∷◌, ◌++◌, ℤ, pos}
-use Rattle.insn.specs.Rfc.{operation_of}
+use Rattle.std.specs.Prelude.{ℕ, suc, List, [], ◌∷◌, ◌++◌, ℤ}
 use Rattle.insn.specs.Form.{opcode_of}
 use Rattle.insn.specs.declared.Insn.{Insn}
 use Rattle.insn.specs.declared.form.Form.{Form}

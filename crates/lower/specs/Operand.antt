@@ -1,5 +1,5 @@
 -- "Load", "Addr", "Keep" and "Map".
-use Rattle.std.specs.Prelude.{ℕ, suc, ◌%◌, List, [], ◌∷◌, ℤ, pos, None, Option, Some}
+use Rattle.std.specs.Prelude.{ℕ, suc, ◌%◌, [], ◌∷◌, ℤ, pos, None, Option, Some}
 use Rattle.wire.specs.Pick.{pick}
 use Rattle.wire.specs.Range.{fits32}
 use Rattle.ir.specs.declared.BinaryOp.TheVariants.{Add}
@@ -8,8 +8,7 @@ use Rattle.ir.specs.declared.Operand.TheVariants.{Var, Immediate}
 use Rattle.insn.specs.declared.form.Size.TheVariants.{Dw}
 use Rattle.insn.specs.declared.form.Form.TheVariants.{Ldx, Stx, AluImm, MovImm, MovReg, Call}
 use Rattle.frame.specs.Cell.{Frame}
-use Rattle.lower.specs.Op.{Op, Lowered, becomes, refused, map, insn, ◌▸◌}
-use Rattle.lower.specs.declared.Reason.{Reason}
+use Rattle.lower.specs.Op.{Lowered, becomes, refused, map, insn, ◌▸◌}
 use Rattle.lower.specs.declared.Reason.TheVariants as Re
 
 -- MOV64 of a constant: 12 where it is outside i32

@@ -12,7 +12,7 @@ use Rattle.frame.specs.Cell.{Frame}
 use Rattle.lower.specs.Op.{Op, plain, map, Lowered, becomes, refused, insn, slots_of, ◌▸◌}
 use Rattle.lower.specs.Operand.{constant, move, add, on_cell}
 use Rattle.lower.specs.Put.{insns_in, put_at, put_lowered}
-use Rattle.lower.specs.Held.{map_in, held}
+use Rattle.lower.specs.Held.{held}
 use Rattle.lower.specs.declared.Reason.{Reason}
 use Rattle.lower.specs.declared.Reason.TheVariants as Re
 use Rattle.lower.specs.declared.Emitted.{Emitted}

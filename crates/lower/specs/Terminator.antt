@@ -1,5 +1,5 @@
 -- What each terminator becomes.
-use Rattle.std.specs.Prelude.{ℕ, [], ◌∷◌, pos}
+use Rattle.std.specs.Prelude.{[], ◌∷◌, pos}
 use Rattle.ir.specs.declared.Terminator.{Terminator}
 use Rattle.ir.specs.declared.Terminator.TheVariants.{Return, Jump, Branch}
 use Rattle.insn.specs.declared.form.Form.TheVariants.{Exit}

@@ -1,4 +1,5 @@
 // What each opcode becomes, in 01's order: the count of operands, then word by word or piece by piece; nothing is put before all are decided. The operands stand in a payload from byte 16 on.
+// Each is handed the code and a place, the frame, what its opcode says and the payload: no two of these are always the same pair.
 ghost use Rattle.std.specs.Prelude.{◌<◌, false, [], ◌∷◌, ◌≡◌, eqb};
 ghost use Rattle.wire.specs.Pick.{either};
 ghost use Rattle.operand.specs.Operand.{operand_in};

@@ -12,6 +12,7 @@ use wire::number::{SlotNumber, byte_offset};
 
 // ---- putting
 
+// The code and a byte of it, and no part of it that begins there: what is promised holds for each byte, also past its end.
 // An instruction at a slot, counted from a byte of the code; no slot lies in the code where that byte lies past its end.
 fn put_slot(code: &mut [u8], at: usize, slot: SlotNumber, word: u64)
     ensures { code.new ≡ store code.old (at + bytes_before slot.0) (bytes_of (insn_of word)) }

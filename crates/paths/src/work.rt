@@ -61,6 +61,7 @@ fn run(code: &[u8], t: &mut [u16], work: &mut Worklist)
     requires { Work code.now t.old work.old }
     ensures { Settled code.now t.new }
 {
+    // no `for`: it ends where no slot waits
     while work.top != 0 {
         turn(code, t, work);
     }

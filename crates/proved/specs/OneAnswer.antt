@@ -50,9 +50,6 @@ pub record OneAnswer : Type 0 where
   pub wire_sign32 : DecidesAnswer wire.sign32.Reads.Post
   pub wire_fits16 : DecidesAnswer wire.range.fits16.Reads.Post
   pub wire_fits32 : DecidesAnswer wire.range.fits32.Reads.Post
-  pub wire_least : DecidesAnswer wire.range.least.Reads.Post
-  pub wire_wide8 : DecidesAnswer wire.range.wide8.Reads.Post
-  pub wire_wide32 : DecidesAnswer wire.range.wide32.Reads.Post
   pub wire_get_u8 : DecidesAnswer wire.get_u8.Reads.Post
   pub wire_get_u16 : DecidesAnswer wire.get_u16.Reads.Post
   pub wire_get_u32 : DecidesAnswer wire.get_u32.Reads.Post

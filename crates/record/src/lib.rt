@@ -50,6 +50,7 @@ pub enum Fault {
     Broken(usize),
 }
 
+// A function and no `From`: a call then says by its name that it gives the number, the place and the value.
 #[tactic(auto, unfolding(crate::specs::Record::refusal_of))]
 pub fn refusal(f: Fault) -> Refusal
     ensures { result ≡ refusal_of f }

@@ -46,7 +46,7 @@ fn put_operands(fields: &mut [u64], at: usize, list: Operands)
     }
 }
 
-// Seven numbers and zeros.
+// Seven numbers and zeros. Seven parameters, and no list: each stands at its call under what it is.
 fn padded(a: u64, b: u64, c: u64, d: u64, e: u64, f: u64, g: u64) -> [u64; 24]
     ensures { result ≡ padded (a ∷ b ∷ c ∷ d ∷ e ∷ f ∷ g ∷ []) }
 {

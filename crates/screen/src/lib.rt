@@ -29,6 +29,7 @@ pub enum Fault {
     PastEnd(usize),
 }
 
+// A function and no `From`: a call then says by its name that it gives the number, the place and the value.
 #[tactic(auto, unfolding(crate::specs::Verdict::refusal_of))]
 pub fn refusal(f: Fault) -> Refusal
     ensures { result ≡ refusal_of f }

@@ -23,7 +23,7 @@ use Rattle.lower.specs.Instruction.{on_first, on_two, on_three, on_none, operate
 use Rattle.lower.specs.Payload.{operands_of, instruction_in}
 use Rattle.lower.specs.Held.{map_in, held}
 use Rattle.size.specs.Size.{every_cell, size_in}
-use Rattle.size.specs.Celled.{HasCell, Celled}
+use Rattle.size.specs.Celled.{Celled}
 use Rattle.size.proofs.Takes.{joined, join}
 
 -- ---- two that take the same

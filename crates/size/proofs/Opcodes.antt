@@ -13,7 +13,6 @@ use Rattle.wire.specs.Pick.{pick, either}
 use Rattle.wire.specs.Le.{byte_at, unsigned_at}
 use Rattle.ir.specs.declared.BinaryOp.{BinaryOp}
 use Rattle.ir.specs.declared.Operand.{Operand}
-use Rattle.ir.specs.declared.Operand.TheVariants.{Immediate}
 use Rattle.ir.specs.declared.Opcode.TheVariants as C
 use Rattle.opcode.specs.Opcode.{opcode_in}
 use Rattle.opcode.proofs.Opcodes.{else_load_key}

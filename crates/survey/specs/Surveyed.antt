@@ -29,6 +29,10 @@ unfoldable pub counted : Found → Collected → Result (Found × ℕ) Fault
 counted found (all variables) = Ok (found, length variables)
 counted found (too_many place variables) = Err (TooMany place)
 
+-- a reading refusal is the survey's
+unfoldable pub of_reading : ReadFault → Fault
+of_reading f = Reading f
+
 unfoldable pub answered : Result Found ReadFault → Collected → Result (Found × ℕ) Fault
 answered (Ok found) c = counted found c
 answered (Err f) c = Err (Reading f)

@@ -5,7 +5,7 @@ mod occurrences;
 mod pass;
 
 ghost use Rattle.std.specs.Prelude.{length, ◌≡◌};
-ghost use Rattle.survey.specs.Surveyed.{surveyed, surveyed_variables, surveyed_ids, surveyed_endings};
+ghost use Rattle.survey.specs.Surveyed.{of_reading, surveyed, surveyed_variables, surveyed_ids, surveyed_endings};
 
 use unitfile::Found;
 
@@ -14,6 +14,15 @@ use unitfile::Found;
 pub enum Fault {
     Reading(record::Fault),
     TooMany(usize),
+}
+
+#[tactic(auto, unfolding(crate::specs::Surveyed::of_reading))]
+impl From<record::Fault> for Fault {
+    ghost from_gives = { λ f e. e ≡ of_reading f };
+
+    fn from(f: record::Fault) -> Fault {
+        Fault::Reading(f)
+    }
 }
 
 // What an array's copy shows of a lent one: how long it is.
@@ -33,8 +42,6 @@ pub fn survey_unit(
     ensures endings_after { endings.new ≡ surveyed_endings unit.now endings.old }
 {
     fixed(*variables);
-    match unitfile::read_unit(unit) {
-        Ok(found) => pass::survey_blocks(unit, found, variables, ids, endings),
-        Err(f) => Err(Fault::Reading(f)),
-    }
+    let found = unitfile::read_unit(unit)?;
+    pass::survey_blocks(unit, found, variables, ids, endings)
 }

@@ -116,11 +116,9 @@ fn with_operands(
 {
     let mut counted = tally;
     let mut i = place + 20;
-    let mut left = count;
-    while 0 < left {
+    for _ in 0..count {
         counted = with_operand(s, variables, hints, counted, place, i);
         i += 9;
-        left -= 1;
     }
     counted
 }

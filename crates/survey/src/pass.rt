@@ -39,6 +39,7 @@ fn over_instructions(
 {
     let mut counted = tally;
     let mut at = first;
+    // no `for`: it ends where a record is no instruction
     while wire::get_u16(s, at + 2) == 4 {
         counted = occurrences::with_instruction(s, variables, hints, counted, at);
         at = at + 4 + wire::get_u16(s, at) as usize;
@@ -77,15 +78,13 @@ pub(crate) fn survey_blocks(
     let mut at = found.body;
     let mut tally = Tally { count: 0, place: 0 };
     let mut hints = [0u8; 256];
-    let mut k = 0;
-    while k < n {
+    for k in 0..n {
         keep(ids, k, wire::get_u32(unit, at + 4));
         let g = over_instructions(unit, variables, &mut hints, tally, at + 8);
         let end = g.at;
         tally = occurrences::with_terminator(unit, variables, &mut hints, g.tally, end);
         keep(endings, k, end as u32);
         at = end + 4 + wire::get_u16(unit, end) as usize;
-        k += 1;
     }
     answer(found, tally)
 }

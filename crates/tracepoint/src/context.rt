@@ -169,10 +169,8 @@ pub(crate) fn note_blocks(
     ensures noted_2 { Noted (blocks_of (parse unit.now)) frame.entry.variables.now marks.old counts.old numbers.old marks.new counts.new numbers.new }
 {
     let n = found.blocks as usize;
-    let mut k = 0;
-    while k < n {
+    for k in 0..n {
         let t = terminator_in(unit, endings[k] as usize + 4);
         note(frame, k, t, marks, counts, targets, numbers);
-        k += 1;
     }
 }

@@ -18,6 +18,7 @@ use lower::{Emitted, Reason};
 // ---- instructions
 
 #[tactic(auto, unfolding(passes::specs::Tables::size_by, passes::specs::Tables::relocs_by))]
+// Slots and relocations, or the refused record's place and why: pairs, since no other part of them is asked.
 fn size_of(place: usize, e: Result<Emitted, Reason>) -> Result<(u32, u32), (usize, Reason)>
     ensures { result ≡ size_by place e }
 {
@@ -41,6 +42,7 @@ fn size_of_instructions(
     let mut slots = 0;
     let mut relocs = 0;
     let mut at = first;
+    // no `for`: a step is as long as the record
     while at < end {
         let payload = &unit[at + 4..];
         let condition = context.condition_of(payload);
@@ -127,15 +129,13 @@ pub(crate) fn measure(
     let mut relocs = 0;
     let mut at = links.found.body;
     edges[0] = 1;
-    let mut k = 0;
-    while k < n {
+    for k in 0..n {
         let end = links.endings[k] as usize;
         let (s, r) = size_of_block(links.unit, context, links.emitted[k] == 1, at + 8, end)?;
         slots += s;
         relocs += r;
         edges[k + 1] = slots;
         at = end + 4 + wire::get_u16(links.unit, end) as usize;
-        k += 1;
     }
     Ok((slots, relocs))
 }

@@ -204,6 +204,7 @@ fn put_instructions(
 {
     let mut at = first;
     let mut passed = passed;
+    // no `for`: a step is as long as the record
     while at < end {
         let payload = &unit[at + 4..];
         passed = put_instruction(context, payload, code, relocs, passed);
@@ -281,8 +282,7 @@ pub(crate) fn write_unit(
         scratch: 0,
     };
     let mut at = links.found.body;
-    let mut k = 0;
-    while k < n {
+    for k in 0..n {
         let end = links.endings[k] as usize;
         passed = put_block(
             context,
@@ -296,6 +296,5 @@ pub(crate) fn write_unit(
             passed, // the ring goes on through the unit
         );
         at = end + 4 + wire::get_u16(links.unit, end) as usize;
-        k += 1;
     }
 }

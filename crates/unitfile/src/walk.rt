@@ -13,6 +13,7 @@ fn rest_of_block(s: &[u8], first: usize, maps: u16) -> Result<usize, Fault>
     ensures { (found : Found) (blocks : ℕ) → found_with found (records_from s.now maps (in_block first blocks)) ≡ on_end found s.now maps blocks result }
 {
     let mut at = first;
+    // no `for`: it ends at the terminator
     loop {
         let (kind, next) = recordcheck::check_inside(s, at, maps)?;
         if kind != kinds::INSTRUCTION {

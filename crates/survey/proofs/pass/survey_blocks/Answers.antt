@@ -1,5 +1,8 @@
 use mathlib.Core.Path.{sym, ap, ◌∙◌}
-use Prim.Native.Nat.{ℕ, ◌+◌, ◌-◌}
+use Prim.Native.Nat.{ℕ, ◌+◌, ◌≤◌}
+use lib.ListN.{length}
+use Rattle.unitfile.specs.Unit.{parse}
+use Rattle.survey.specs.Surveyed.{blocks_of}
 use native.Mathlib.Omega.{arith}
 use Rattle.record.specs.Frame.{next_at}
 use Rattle.unitfile.proofs.Units.{unit_of}
@@ -56,12 +59,6 @@ overflow_add-at-in-loop-k-3 c =
     let o = c.over_instructions-g.ensures in
     omega (arith, ends_inside k.0 below o)
 
-pub overflow_add-k : goal.overflow_add-k
-overflow_add-k c = omega arith
-
-pub loop-k-smaller : goal.loop-k-smaller
-loop-k-smaller c = omega arith
-
 pub loop-k-preserved : goal.loop-k-preserved
 unfolding next_at
 loop-k-preserved c =
@@ -74,14 +71,14 @@ loop-k-preserved c =
 pub shape_of-ids : goal.shape_of-ids
 shape_of-ids c =
     let k = c.loop-k.invariant in
-    ids_length k.0 (rw k.1 at c.loop-k-test.false)
+    ids_length k.0 (omega (arith, k.1))
 
 pub shape_of-endings : goal.shape_of-endings
 shape_of-endings c =
     let k = c.loop-k.invariant in
-    endings_length k.0 (rw k.1 at c.loop-k-test.false)
+    endings_length k.0 (omega (arith, k.1))
 
 pub returns : goal.returns
 returns c =
     let k = c.loop-k.invariant in
-    let all = rw k.1 at c.loop-k-test.false in record { value = c.answer.ensures ∙ end_answer k.0 all c.args.found; variables_after = end_variables k.0 all c.requires.variables_len; ids_after = end_ids k.0 all; endings_after = end_endings k.0 all }
+    let all : length (blocks_of (parse c.args.unit.now)) ≤ c.loop-k.k = omega (arith, k.1) in record { value = c.answer.ensures ∙ end_answer k.0 all c.args.found; variables_after = end_variables k.0 all c.requires.variables_len; ids_after = end_ids k.0 all; endings_after = end_endings k.0 all }

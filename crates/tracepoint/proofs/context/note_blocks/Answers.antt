@@ -21,4 +21,4 @@ loop-k-preserved c =
 pub returns : goal.returns
 returns c =
     let l = c.loop-k.invariant in
-    let are = closings_at_lem _ c.args.found _ c.requires.unit_value c.requires.fits.1 in record { noted = at_end l.0 c.loop-k-test.false are c.requires.fits.0 c.requires.fits.2; noted_2 = at_end l.1 c.loop-k-test.false are c.requires.fits.0 c.requires.fits.2 }
+    let are = closings_at_lem _ c.args.found _ c.requires.unit_value c.requires.fits.1 in record { noted = at_end l.0 (omega arith) are c.requires.fits.0 c.requires.fits.2; noted_2 = at_end l.1 (omega arith) are c.requires.fits.0 c.requires.fits.2 }

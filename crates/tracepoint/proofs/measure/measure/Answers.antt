@@ -51,4 +51,4 @@ loop-k-preserved c =
     rw c.get_u16.ensures (on_block c.loop-k.invariant c.loop-k-test.true c.size_of_block.ensures c.in_ok-s.was)
 
 pub returns : goal.returns
-returns c = at_end c.loop-k.invariant _ refl c.loop-k-test.false (unit_of _ _ c.args.links.read).short
+returns c = at_end c.loop-k.invariant _ refl (omega arith) (unit_of _ _ c.args.links.read).short

@@ -43,5 +43,5 @@ loop-k-preserved c =
 pub returns : goal.returns
 unfolding opcode_of
 returns c =
-    let shown = unit_done c.args.links.unit.now c.args.links.found (context_in c.args.context) (marked c.args.links.emitted.now) c.args.links.read c.requires.tables c.args.code.now c.args.relocs.now c.put.ensures (done c.loop-k.invariant.0 c.loop-k-test.false) in
+    let shown = unit_done c.args.links.unit.now c.args.links.found (context_in c.args.context) (marked c.args.links.emitted.now) c.args.links.read c.requires.tables c.args.code.now c.args.relocs.now c.put.ensures (done c.loop-k.invariant.0 (omega arith)) in
     record { code_after = shown.0; relocs_after = shown.1 }

@@ -1,6 +1,5 @@
 -- `write_unit` goes over the blocks; what is left of them always leads to the same code and relocations.
 use mathlib.Core.Path.{◌≡◌}
-use Prim.Native.Nat.{◌-◌}
 use lib.ListN.{length}
 use Rattle.unitfile.specs.Unit.{parse}
 use Rattle.survey.specs.Surveyed.{blocks_of}
@@ -17,6 +16,3 @@ invariant-loop-k l =
     Left l.links.unit.now l.links.endings.now (context_in l.context) (marked l.links.emitted.now) (starts (context_in l.context) (keep_by (marked l.links.emitted.now) 0 (blocks_of (parse l.links.unit.now)))) l.edges l.links.numbers.now (ops (blocks (context_in l.context) 0 (keep_by (marked l.links.emitted.now) 0 (blocks_of (parse l.links.unit.now))))) l.initial.code l.initial.relocs
     l.n l.k l.at l.passed.scratch l.passed.front.slot.0 l.passed.front.relocs l.code l.relocs
     × (length l.code ≡ length l.initial.code) × (length l.relocs ≡ length l.initial.relocs)
-
-abbrev pub decreases-loop-k : goal.decreases-loop-k
-decreases-loop-k l = l.n - l.k
