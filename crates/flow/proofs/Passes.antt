@@ -1,7 +1,8 @@
 -- What the passes make of each number of a list.
-use Rattle.std.proofs.Common.{◌≡◌, ◌∙◌, refl, sym, ap, List, [], ◌∷◌, ℕ, ◌<◌, ◌+◌, ◌≤◌, ◌++◌, map, length, get_or, set, take, drop, take_all, append-nil, arith}
+use Rattle.std.proofs.Common.{◌≡◌, ◌∙◌, refl, sym, ap, List, [], ◌∷◌, ℕ, suc, ◌<◌, ◌+◌, ◌≤◌, ◌++◌, map, length, get_or, set, take, drop, take_all, append-nil, arith}
 use Rattle.std.proofs.lemmas.List.{length-map, get_or-map, get_or_default, drop_all}
-use Rattle.std.proofs.lemmas.List.Edits.{map_over_more}
+use Rattle.std.proofs.lemmas.List.Edits.{sets, map_over_more}
+use lib.Seq.{get_or-set_other}
 use Rattle.wire.specs.Pick.{pick}
 use Rattle.flow.specs.Node.{Node}
 use Rattle.flow.specs.Computed.{is_reached}
@@ -44,3 +45,9 @@ flags_length ns l = ap length (flags_map ns l) ∙ length-map l (flag ns)
 
 pub flags_at : (ns : List Node) (l : List ℕ) (i : ℕ) → i < length l → get_or (flags ns l) i 0 ≡ flag ns (get_or l i 0)
 flags_at ns l i h = ap (λ (m : List ℕ). get_or m i 0) (flags_map ns l) ∙ get_or-map (flag ns) l i 0 0 h
+
+-- ---- a stored list
+
+pub sets_before : (o p : List ℕ) (q j : ℕ) → j < q → get_or (sets p q o) j 0 ≡ get_or p j 0
+sets_before [] p q j h = refl
+sets_before (x ∷ o) p q j h = sets_before o (set p q x) (suc q) j (omega arith) ∙ get_or-set_other p q j x 0 (λ (e : j ≡ q). omega arith)

@@ -3,6 +3,7 @@
 #![tactic(auto)]
 
 mod blocks;
+mod pending;
 mod walk;
 
 ghost use Rattle.std.specs.Prelude.{◌≡◌, List, [], ◌∷◌, ℕ, ◌*◌, ◌≤◌, length, IsTrue};

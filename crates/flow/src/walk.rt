@@ -1,9 +1,8 @@
 // The walk over the blocks that are reached from the first.
 ghost use Rattle.std.specs.Prelude.{◌≡◌, ◌+◌, ◌*◌, ◌≤◌, ◌<◌, ◌++◌, length};
-ghost use Rattle.arrayvec.specs.ArrayVec.{array_vec_len};
 ghost use Rattle.flow.specs.Way.{outs, Clear, Marked};
 
-use arrayvec::ArrayVec;
+use crate::pending::Pending;
 
 // Block b's targets go onto the pending list.
 #[tactic(auto, using(crate::proofs::Reaching::outs_none, crate::proofs::Reaching::outs_one, crate::proofs::Reaching::outs_two))]
@@ -11,11 +10,11 @@ fn push_targets<const PENDING: usize>(
     b: usize,
     counts: &[u8],
     targets: &[u32],
-    pending: &mut ArrayVec<u32, PENDING>,
+    pending: &mut Pending<PENDING>,
 )
     requires inside { (b < length counts.now) × (length targets.now ≡ 2 * length counts.now) }
-    requires room { array_vec_len pending.old + 2 ≤ PENDING }
-    ensures { pending.new.items ≡ pending.old.items ++ outs counts.now targets.now b }
+    requires room { length pending.old + 2 ≤ PENDING }
+    ensures { pending.new ≡ pending.old ++ outs counts.now targets.now b }
 {
     match counts[b] {
         0 => {}
@@ -39,7 +38,7 @@ pub(crate) fn reach<const PENDING: usize>(
     requires clear { Clear marks.old }
     ensures { Marked (length counts.now) first counts.now targets.now marks.new }
 {
-    let mut pending: ArrayVec<u32, PENDING> = ArrayVec::new();
+    let mut pending = Pending::<PENDING>::new();
     pending.push(first);
     while let Some(number) = pending.pop() {
         let b = number as usize;

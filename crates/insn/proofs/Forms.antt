@@ -3,9 +3,10 @@ use mathlib.Core.Path.{◌≡◌, refl, sym, ap, ◌∙◌}
 use mathlib.Core.Bool.{Bool, true, false}
 use mathlib.Core.Logic.{◌↔◌, ◌≢◌}
 use mathlib.Core.List.{List, [], ◌∷◌}
-use Prim.Native.Nat.{ℕ, ◌<◌}
+use Prim.Native.Nat.{ℕ, ◌+◌, ◌<◌}
+use native.Mathlib.Omega.{arith}
 use lib.Dec.{T, eqb, eqb→eq}
-use Rattle.std.specs.List.{list_any}
+use lib.ListN.{get_or}
 use Rattle.wire.specs.Pick.{implies}
 use Rattle.ir.specs.declared.BinaryOp.TheVariants.{Add, Sub, Mul, Div, Mod, Shl, Shr}
 use Rattle.insn.specs.Rfc.{operation_of, size_field}
@@ -13,7 +14,7 @@ use Rattle.insn.specs.Form.{opcode_of, form_of, is_form, forms_below, sizes, wit
 use Rattle.insn.specs.declared.form.Size.TheVariants.{W, H, B, Dw}
 use Rattle.insn.specs.declared.form.Form.{Form}
 use Rattle.insn.specs.declared.form.Form.TheVariants.{NoForm, WideLoad, Ldx, Stx, AluImm, AluReg, MovImm, MovReg, Ja, JeqImm, JneImm, Call, Exit}
-use Rattle.insn.proofs.Table.{every, each}
+use Rattle.insn.proofs.Table.{every, each, listed, listed_at}
 
 -- the fields of a form's opcode byte are the form's
 pub form_opcode : (f : Form) → form_of (opcode_of f) ≡ f
@@ -77,23 +78,14 @@ pub thirty : forms_below 256 ≡ 30
 unfolding forms_below is_form form_of sizes with_constant with_register jumps size_field
 thirty = refl
 
--- ---- the opcode bytes, as the code lists them
+-- ---- the table
 
-unfoldable pub codes : List ℕ
-codes = 24 ∷ 97 ∷ 105 ∷ 113 ∷ 121 ∷ 99 ∷ 107 ∷ 115 ∷ 123 ∷ 7 ∷ 23 ∷ 39 ∷ 55 ∷ 103 ∷ 119 ∷ 151 ∷ 15 ∷ 31 ∷ 47 ∷ 63 ∷ 111 ∷ 127 ∷ 159 ∷ 183 ∷ 191 ∷ 5 ∷ 21 ∷ 85 ∷ 133 ∷ 149 ∷ []
+-- by an opcode byte, the form that RFC 9669's fields give
+unfoldable pub forms : List Form
+forms = listed form_of 0 256
 
-known : ℕ → Bool
-known c = implies (is_form (form_of c)) (list_any (eqb c) codes)
-
-known_all : T (every known 256)
-unfolding known codes is_form form_of size_field sizes with_constant with_register jumps
-known_all = tt
-
--- any other byte has no form
-pub no_form : (c : ℕ) → c < 256 → list_any (eqb c) codes ≡ false → form_of c ≡ NoForm
-unfolding known is_form
-no_form c h e = go (form_of c) (rw e at (each known 256 known_all c h))
-  where
-    go : (f : Form) → T (implies (is_form f) false) → f ≡ NoForm
-    go NoForm t = refl
-    go f t = absurd t
+pub form_at : (c : ℕ) → c < 256 → get_or forms c NoForm ≡ form_of c
+unfolding forms
+form_at c h =
+    let e : 0 + c ≡ c = omega arith in
+    listed_at form_of NoForm 0 256 c h ∙ ap form_of e

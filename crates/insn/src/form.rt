@@ -2,10 +2,6 @@
 ghost use Rattle.std.specs.Prelude.{◌≡◌};
 ghost use Rattle.insn.specs.Form.{form_of};
 
-use crate::{
-    BPF_CALL, BPF_EXIT, BPF_JA, BPF_JEQ_IMM, BPF_JNE_IMM, BPF_LD_DW_IMM, BPF_MOV64_IMM,
-    BPF_MOV64_REG,
-};
 use ir::BinaryOp;
 
 // The sizes of a load or store, in the order of RFC 9669's size field.
@@ -35,41 +31,92 @@ pub enum Form {
     Exit,
 }
 
-#[tactic(auto, unfolding(crate::specs::Form::form_of, crate::specs::Form::sizes, crate::specs::Form::with_constant, crate::specs::Form::with_register, crate::specs::Form::jumps, crate::specs::Rfc::size_field))]
+// ---- the forms of the table, each in a word
+
+const NONE: Form = Form::NoForm;
+
+const WIDE: Form = Form::WideLoad;
+
+const LDXW: Form = Form::Ldx(Size::W);
+
+const LDXH: Form = Form::Ldx(Size::H);
+
+const LDXB: Form = Form::Ldx(Size::B);
+
+const LDXD: Form = Form::Ldx(Size::Dw);
+
+const STXW: Form = Form::Stx(Size::W);
+
+const STXH: Form = Form::Stx(Size::H);
+
+const STXB: Form = Form::Stx(Size::B);
+
+const STXD: Form = Form::Stx(Size::Dw);
+
+const ADDK: Form = Form::AluImm(BinaryOp::Add);
+
+const SUBK: Form = Form::AluImm(BinaryOp::Sub);
+
+const MULK: Form = Form::AluImm(BinaryOp::Mul);
+
+const DIVK: Form = Form::AluImm(BinaryOp::Div);
+
+const MODK: Form = Form::AluImm(BinaryOp::Mod);
+
+const SHLK: Form = Form::AluImm(BinaryOp::Shl);
+
+const SHRK: Form = Form::AluImm(BinaryOp::Shr);
+
+const ADDX: Form = Form::AluReg(BinaryOp::Add);
+
+const SUBX: Form = Form::AluReg(BinaryOp::Sub);
+
+const MULX: Form = Form::AluReg(BinaryOp::Mul);
+
+const DIVX: Form = Form::AluReg(BinaryOp::Div);
+
+const MODX: Form = Form::AluReg(BinaryOp::Mod);
+
+const SHLX: Form = Form::AluReg(BinaryOp::Shl);
+
+const SHRX: Form = Form::AluReg(BinaryOp::Shr);
+
+const MOVK: Form = Form::MovImm;
+
+const MOVX: Form = Form::MovReg;
+
+const JUMP: Form = Form::Ja;
+
+const JEQK: Form = Form::JeqImm;
+
+const JNEK: Form = Form::JneImm;
+
+const CALL: Form = Form::Call;
+
+const EXIT: Form = Form::Exit;
+
+// The form of each opcode byte, a line for each of its high four bits. `static`, since a `const` is laid onto the stack at every call.
+static FORMS: [Form; 256] = [
+    NONE, NONE, NONE, NONE, NONE, JUMP, NONE, ADDK, NONE, NONE, NONE, NONE, NONE, NONE, NONE, ADDX,
+    NONE, NONE, NONE, NONE, NONE, JEQK, NONE, SUBK, WIDE, NONE, NONE, NONE, NONE, NONE, NONE, SUBX,
+    NONE, NONE, NONE, NONE, NONE, NONE, NONE, MULK, NONE, NONE, NONE, NONE, NONE, NONE, NONE, MULX,
+    NONE, NONE, NONE, NONE, NONE, NONE, NONE, DIVK, NONE, NONE, NONE, NONE, NONE, NONE, NONE, DIVX,
+    NONE, NONE, NONE, NONE, NONE, NONE, NONE, NONE, NONE, NONE, NONE, NONE, NONE, NONE, NONE, NONE,
+    NONE, NONE, NONE, NONE, NONE, JNEK, NONE, NONE, NONE, NONE, NONE, NONE, NONE, NONE, NONE, NONE,
+    NONE, LDXW, NONE, STXW, NONE, NONE, NONE, SHLK, NONE, LDXH, NONE, STXH, NONE, NONE, NONE, SHLX,
+    NONE, LDXB, NONE, STXB, NONE, NONE, NONE, SHRK, NONE, LDXD, NONE, STXD, NONE, NONE, NONE, SHRX,
+    NONE, NONE, NONE, NONE, NONE, CALL, NONE, NONE, NONE, NONE, NONE, NONE, NONE, NONE, NONE, NONE,
+    NONE, NONE, NONE, NONE, NONE, EXIT, NONE, MODK, NONE, NONE, NONE, NONE, NONE, NONE, NONE, MODX,
+    NONE, NONE, NONE, NONE, NONE, NONE, NONE, NONE, NONE, NONE, NONE, NONE, NONE, NONE, NONE, NONE,
+    NONE, NONE, NONE, NONE, NONE, NONE, NONE, MOVK, NONE, NONE, NONE, NONE, NONE, NONE, NONE, MOVX,
+    NONE, NONE, NONE, NONE, NONE, NONE, NONE, NONE, NONE, NONE, NONE, NONE, NONE, NONE, NONE, NONE,
+    NONE, NONE, NONE, NONE, NONE, NONE, NONE, NONE, NONE, NONE, NONE, NONE, NONE, NONE, NONE, NONE,
+    NONE, NONE, NONE, NONE, NONE, NONE, NONE, NONE, NONE, NONE, NONE, NONE, NONE, NONE, NONE, NONE,
+    NONE, NONE, NONE, NONE, NONE, NONE, NONE, NONE, NONE, NONE, NONE, NONE, NONE, NONE, NONE, NONE,
+];
+
 pub fn form_of(code: u8) -> Form
     ensures { result ≡ form_of code }
 {
-    match code {
-        BPF_LD_DW_IMM => Form::WideLoad,
-        0x61 => Form::Ldx(Size::W),
-        0x69 => Form::Ldx(Size::H),
-        0x71 => Form::Ldx(Size::B),
-        0x79 => Form::Ldx(Size::Dw),
-        0x63 => Form::Stx(Size::W),
-        0x6b => Form::Stx(Size::H),
-        0x73 => Form::Stx(Size::B),
-        0x7b => Form::Stx(Size::Dw),
-        0x07 => Form::AluImm(BinaryOp::Add),
-        0x17 => Form::AluImm(BinaryOp::Sub),
-        0x27 => Form::AluImm(BinaryOp::Mul),
-        0x37 => Form::AluImm(BinaryOp::Div),
-        0x67 => Form::AluImm(BinaryOp::Shl),
-        0x77 => Form::AluImm(BinaryOp::Shr),
-        0x97 => Form::AluImm(BinaryOp::Mod),
-        0x0f => Form::AluReg(BinaryOp::Add),
-        0x1f => Form::AluReg(BinaryOp::Sub),
-        0x2f => Form::AluReg(BinaryOp::Mul),
-        0x3f => Form::AluReg(BinaryOp::Div),
-        0x6f => Form::AluReg(BinaryOp::Shl),
-        0x7f => Form::AluReg(BinaryOp::Shr),
-        0x9f => Form::AluReg(BinaryOp::Mod),
-        BPF_MOV64_IMM => Form::MovImm,
-        BPF_MOV64_REG => Form::MovReg,
-        BPF_JA => Form::Ja,
-        BPF_JEQ_IMM => Form::JeqImm,
-        BPF_JNE_IMM => Form::JneImm,
-        BPF_CALL => Form::Call,
-        BPF_EXIT => Form::Exit,
-        _ => Form::NoForm,
-    }
+    FORMS[code as usize]
 }

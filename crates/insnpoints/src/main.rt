@@ -5,13 +5,15 @@
 mod operand;
 mod text;
 
+ghost use Rattle.std.specs.Prelude.{◌≤◌, length, IfOk};
+
 use insn::Insn;
 use insn::form::{Form, form_of};
 use std::io::{self, Read};
 use text::{OneSlot, Slot, WideLoad};
 
 // What is read of the input.
-const MOST: u64 = 4096;
+const MOST: usize = 4096;
 
 fn print_one_slot(out: &impl Print, i: Insn) -> io::Result<()> {
     println!(out; "{}\t{}", Slot(i), OneSlot(i))
@@ -51,8 +53,25 @@ fn each_slot(out: &impl Print, code: &[u8]) -> io::Result<()> {
     Ok(())
 }
 
+// Reads until the buffer is full or the input ends, and answers how many bytes it put at the front. The whole rest of the buffer is lent to
+// each read, since an input may hand out a message at a time and cut what has no room; and the library's `read_to_end` needs the heap.
+fn read_full(input: &mut impl Read, buffer: &mut [u8]) -> io::Result<usize>
+    ensures { IfOk result (λ n. n ≤ length buffer.new) }
+{
+    let mut done = 0;
+    // no `for`: a step is as long as what was read
+    while done < buffer.len() {
+        let n = input.read(&mut buffer[done..])?;
+        if n == 0 {
+            break;
+        }
+        done += n;
+    }
+    Ok(done)
+}
+
 fn main(rt: HostRuntime) -> io::Result<()> {
-    let mut code = Vec::new(rt.alloc());
-    rt.reader().take(MOST).read_to_end(&mut code)?;
-    each_slot(&rt, &code)
+    let mut code = [0u8; MOST];
+    let len = read_full(&mut rt.reader(), &mut code)?;
+    each_slot(&rt, &code[..len])
 }

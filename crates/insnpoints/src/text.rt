@@ -12,12 +12,22 @@ impl fmt::Display for Slot {
     fn fmt<W: fmt::Write>(&self, f: &mut fmt::Formatter<W>) -> fmt::Result {
         let code = insn::opcode_of(form_of(self.0.code));
         let bytes = Insn { code, ..self.0 }.to_le_bytes();
-        write!(f, "{:02x}", bytes[0])?;
-        for b in &bytes[1..] {
-            write!(f, " {b:02x}")?;
-        }
-        Ok(())
+        f.write_str(str::from_utf8(&octets(bytes)).unwrap_or(""))
     }
+}
+
+fn digit(n: u8) -> u8 {
+    b"0123456789abcdef"[usize::from(n % 16)]
+}
+
+// Two digits a byte, blanks between them. All are put at once: each number that is printed by itself costs more than the line's other words.
+fn octets(bytes: [u8; 8]) -> [u8; 23] {
+    let mut text = [b' '; 23];
+    for (two, b) in text.chunks_mut(3).zip(bytes) {
+        two[0] = digit(b / 16);
+        two[1] = digit(b % 16);
+    }
+    text
 }
 
 // An instruction of one slot. A wide load's first slot is none by itself.

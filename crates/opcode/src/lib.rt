@@ -87,8 +87,9 @@ pub fn map_of(z: i32) -> u32
     u32::try_from(z).unwrap_or(0)
 }
 
-// The opcode of fields that are known to be one's.
+// The opcode of fields that are known to be one's. `inline(always)`, here and below: one jump by the code for all three functions.
 #[tactic(auto, unfolding(crate::specs::Opcode::opcode_in))]
+#[inline(always)]
 pub fn opcode_in(f: Fields) -> Opcode
     ensures { result ≡ opcode_in f }
 {
@@ -125,6 +126,7 @@ pub fn opcode_in(f: Fields) -> Opcode
 
 // Whether the fields are an opcode's, in a unit of so many maps: it uses them in their bounds, and what it does not use is zero.
 #[tactic(auto, using(crate::proofs::Opcodes::small_again, crate::proofs::Opcodes::again), unfolding(crate::specs::Opcode::opcode_of, crate::specs::Opcode::same_fields, crate::specs::Opcode::same_number, crate::specs::Opcode::fields_of, crate::specs::Opcode::opcode_in, crate::specs::Opcode::map_ok, crate::specs::Opcode::is_opcode))]
+#[inline(always)]
 pub fn opcode_ok(f: Fields, maps: u16) -> bool
     ensures { result ≡ is_opcode (opcode_of f maps) }
 {
@@ -154,6 +156,7 @@ pub fn opcode_ok(f: Fields, maps: u16) -> bool
 
 // The opcode in a unit of so many maps.
 #[tactic(auto, unfolding(crate::specs::Opcode::opcode_of, crate::specs::Opcode::is_opcode))]
+#[inline(always)]
 pub fn opcode_of(f: Fields, maps: u16) -> Option<Opcode>
     ensures { result ≡ opcode_of f maps }
 {

@@ -28,8 +28,21 @@ pub fn head_at(s: &[u8]) -> Result<(Head, usize), Fault>
         return Err(Fault::TooLong);
     }
     let (record, next) = record::read_record(s, 0, Due::Head, 0)?;
-    let Record::Head(head) = record else {
+    // by its fields, since a head that goes on whole is stored in parts and loaded at once, which waits for them
+    let Record::Head(
+        Head {
+            edition,
+            maps,
+            blocks,
+        },
+    ) = record
+    else {
         return Err(Fault::NoHead);
+    };
+    let head = Head {
+        edition,
+        maps,
+        blocks,
     };
     Ok((head, next))
 }

@@ -1,5 +1,6 @@
 pub mod Masks
 pub mod Leads
+pub mod Near
 pub mod Table
 pub mod Steps
 pub mod Settle

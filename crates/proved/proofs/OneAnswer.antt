@@ -132,6 +132,7 @@ one_answer =
       frame_insert = λ κ a x y s t p q. cc;
       sort_sort = λ κ a x y s t p q. cc;
       flow_link = λ κ a x y s t p q. cc;
+      survey_from_reading = λ κ a x y s t p q. cc;
       survey_survey_unit = λ κ a x y s t p q. cc;
       lower_lower_instruction = λ κ a x y s t p q. cc;
       lower_scratch_after = λ κ a x y s t p q. cc;
@@ -139,6 +140,9 @@ one_answer =
       size_size_instruction = λ κ a x y s t p q. cc;
       jumps_distance = λ κ a x y s t p q. cc;
       jumps_check_jumps = λ κ a x y s t p q. cc;
+      tracepoint_from_survey = λ κ a x y s t p q. cc;
+      tracepoint_from_measure = λ κ a x y s t p q. cc;
+      tracepoint_from_jumps = λ κ a x y s t p q. cc;
       tracepoint_refusal = λ κ a x y s t p q. cc;
       tracepoint_compile_tracepoint = λ κ a x y s t p q. cc;
       shape_length_ok = λ κ a x y s t p q. cc;
@@ -151,6 +155,7 @@ one_answer =
       paths_analyse = λ κ a x y s t p q. let E = paths.one_answer a.0.now a.1.0.now s.1.0.now t.1.0.now x y p q in both_same E.1 E.0;
       paths_read_mask = λ κ a x y s t p q. cc;
       screen_refusal = λ κ a x y s t p q. cc;
+      screen_from_shapes = λ κ a x y s t p q. cc;
       screen_screen = λ κ a x y s t p q. let E = screen.one_verdict a.0.now a.1.0.now a.1.1.0.now x y s.1.1.0.now t.1.1.0.now p q in both_same E.0 E.1;
       recordfields_fields_of = λ κ a x y s t p q. cc;
       recordfields_record_from = λ κ a x y s t p q. cc;

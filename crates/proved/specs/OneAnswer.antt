@@ -133,6 +133,7 @@ pub record OneAnswer : Type 0 where
   pub frame_insert : Decides frame.insert.Reads.Post (λ κ r (variables, _). r and variables.now)
   pub sort_sort : Decides sort.sort.Reads.Post (λ κ r (keys, _). keys.now)
   pub flow_link : Decides flow.link.Reads.Post (λ κ r (_, (_, (_, (targets, (emitted, _))))). targets.now and emitted.now)
+  pub survey_from_reading : DecidesAnswer survey.FaultFromRecordFault.from.Reads.Post
   pub survey_survey_unit : Decides survey.survey_unit.Reads.Post (λ κ r (_, (variables, (ids, (endings, _)))). r and variables.now and ids.now and endings.now)
   pub lower_lower_instruction : Decides lower.lower_instruction.Reads.Post (λ κ r (code, _). r and code.now)
   pub lower_scratch_after : DecidesAnswer lower.scratch_after.Reads.Post
@@ -140,6 +141,9 @@ pub record OneAnswer : Type 0 where
   pub size_size_instruction : DecidesAnswer size.size_instruction.Reads.Post
   pub jumps_distance : DecidesAnswer jumps.distance.Reads.Post
   pub jumps_check_jumps : DecidesAnswer jumps.check_jumps.Reads.Post
+  pub tracepoint_from_survey : DecidesAnswer tracepoint.FaultFromSurveyFault.from.Reads.Post
+  pub tracepoint_from_measure : DecidesAnswer tracepoint.FaultFromTuple2UsizeReason.from.Reads.Post
+  pub tracepoint_from_jumps : DecidesAnswer tracepoint.FaultFromAstray.from.Reads.Post
   pub tracepoint_refusal : DecidesAnswer tracepoint.refusal.Reads.Post
   pub tracepoint_compile_tracepoint : Decides tracepoint.compile_tracepoint.Reads.Post (λ κ r (_, (code, (relocs, _))). r and code.now and relocs.now)
   pub shape_length_ok : DecidesAnswer shape.length_ok.Reads.Post
@@ -152,6 +156,7 @@ pub record OneAnswer : Type 0 where
   pub paths_analyse : Decides paths.analyse.Reads.Post (λ κ r (_, (table, _)). r and table.now)
   pub paths_read_mask : DecidesAnswer paths.read_mask.Reads.Post
   pub screen_refusal : DecidesAnswer screen.refusal.Reads.Post
+  pub screen_from_shapes : DecidesAnswer screen.FaultFromShapes.from.Reads.Post
   pub screen_screen : Decides screen.screen.Reads.Post (λ κ r (_, (_, (table, _))). r and table.now)
   pub recordfields_fields_of : DecidesAnswer recordfields.numbers.fields_of.Reads.Post
   pub recordfields_record_from : DecidesAnswer recordfields.meant.record_from.Reads.Post

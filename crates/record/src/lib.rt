@@ -84,12 +84,15 @@ pub fn refusal(f: Fault) -> Refusal
     }
 }
 
-// Whether a record whose length is len lies whole in size bytes.
+// Whether a record whose length is len lies whole in size bytes. No `&&` of all three: LLVM would then test at each caller again that the kind lies in them.
 #[tactic(auto, using(std::proofs::lemmas::Bool::Decides::nat_tests))]
 pub fn whole(size: usize, at: usize, len: usize) -> bool
     ensures { result ≡ pick (leb (at + 4) size) (leb (at + 4 + len) size) false }
 {
-    4 <= size && at <= size - 4 && len <= size - 4 - at
+    if size < 4 || size - 4 < at {
+        return false;
+    }
+    len <= size - 4 - at
 }
 
 // The kind of the record that has a value.

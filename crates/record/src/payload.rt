@@ -35,7 +35,17 @@ pub(crate) fn payload_at(s: &[u8], kind: u16, at: usize, len: usize, maps: u16) 
             if len == 8 {
                 let head = head_in(s, at);
                 if head_ok(head) {
-                    return Some(Record::Head(head));
+                    // Its numbers one by one: copied whole, they would be one word across two fields of the other records, and these would go through memory.
+                    let Head {
+                        edition,
+                        maps,
+                        blocks,
+                    } = head;
+                    return Some(Record::Head(Head {
+                        edition,
+                        maps,
+                        blocks,
+                    }));
                 }
             }
             None

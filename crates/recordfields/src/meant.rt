@@ -1,4 +1,5 @@
 // Which record 24 numbers mean. Numbers after those that a record uses are not looked at.
+// `inline(always)`: LLVM then sees at each place that makes a record which one it is, and does not carry the parts of every other along with it.
 #![tactic(auto, using(std::proofs::lemmas::Bool::Decides::nat_tests), unfolding(crate::specs::Meant::operand_from, crate::specs::Meant::opcode_from, crate::specs::Meant::head_from, crate::specs::Meant::block_from, crate::specs::Meant::instruction_from, crate::specs::Meant::jump_from, crate::specs::Meant::branch_from, crate::specs::Meant::terminator_from, crate::specs::Meant::record_from, record::specs::Terminator::branching, record::specs::Terminator::returning, record::specs::Payload::of_terminator, record::specs::Payload::of_instruction, record::specs::Instruction::joined, wire::specs::Range::fits32))]
 
 ghost use Rattle.std.specs.Prelude.{◌≡◌, ◌≤◌, get_or};
@@ -30,6 +31,7 @@ fn operand_from(tag: u64, value: u64) -> Option<Operand>
 }
 
 // The k operands of an instruction.
+#[inline(always)]
 fn operands_from(fields: &[u64], k: u64) -> Option<Operands>
     requires { k ≤ 8 }
     ensures { result ≡ operands_from Zero fields.now 7 k }
@@ -62,6 +64,7 @@ fn opcode_from(code: u64, small: u64, offset: u64, number: u64, maps: u16) -> Op
     )
 }
 
+#[inline(always)]
 fn head_from(edition: u64, maps: u64, blocks: u64) -> Option<Record>
     ensures { result ≡ head_from edition maps blocks }
 {
@@ -75,6 +78,7 @@ fn head_from(edition: u64, maps: u64, blocks: u64) -> Option<Record>
     }))
 }
 
+#[inline(always)]
 fn instruction_from(fields: &[u64], maps: u16) -> Option<Record>
     ensures { result ≡ instruction_from maps fields.now }
 {
@@ -96,6 +100,7 @@ fn instruction_from(fields: &[u64], maps: u16) -> Option<Record>
     }))
 }
 
+#[inline(always)]
 fn jump_from(target: u64) -> Option<Record>
     ensures { result ≡ jump_from target }
 {
@@ -103,12 +108,14 @@ fn jump_from(target: u64) -> Option<Record>
     Some(Record::Terminator(Terminator::Jump(target)))
 }
 
+#[inline(always)]
 fn return_from(o: Option<Operand>) -> Option<Record>
     ensures { result ≡ of_terminator (returning o) }
 {
     Some(Record::Terminator(Terminator::Return(o?)))
 }
 
+#[inline(always)]
 fn branch_from(o: Option<Operand>, to: u64, other: u64) -> Option<Record>
     ensures { result ≡ branch_from o to other }
 {
@@ -121,6 +128,7 @@ fn branch_from(o: Option<Operand>, to: u64, other: u64) -> Option<Record>
     }))
 }
 
+#[inline(always)]
 fn terminator_from(fields: &[u64]) -> Option<Record>
     ensures { result ≡ terminator_from fields.now }
 {
@@ -135,6 +143,7 @@ fn terminator_from(fields: &[u64]) -> Option<Record>
     }
 }
 
+#[inline(always)]
 fn block_from(id: u64) -> Option<Record>
     ensures { result ≡ block_from id }
 {
@@ -143,6 +152,7 @@ fn block_from(id: u64) -> Option<Record>
 }
 
 // The record that the numbers mean in a unit of so many maps, if they mean one.
+#[inline(always)]
 pub fn record_from(fields: &[u64], maps: u16) -> Option<Record>
     ensures { result ≡ record_from maps fields.now }
 {

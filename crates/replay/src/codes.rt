@@ -3,7 +3,6 @@ ghost use Rattle.std.specs.Prelude.{◌≤◌, length, IfOk};
 
 use crate::input::{self, List};
 use crate::{hash, output};
-use std::alloc::{AllocError, Global};
 use std::fmt;
 use std::io::{self, Read};
 use std::rt::Files;
@@ -14,19 +13,9 @@ const PAIRS: u32 = 2147483648;
 // Room for the longest code, the most relocation numbers and the longest table of the list.
 #[derive(Drop)]
 struct Room {
-    code: Vec<u8>,
-    numbers: Vec<u32>,
-    table: Vec<u16>,
-}
-
-impl Room {
-    fn new(alloc: Global) -> Result<Self, AllocError> {
-        Ok(Room {
-            code: vec![in alloc; 0; 1048584]?,
-            numbers: vec![in alloc; 0; 131072]?,
-            table: vec![in alloc; 0; 132072]?,
-        })
-    }
+    code: [u8; 1048584],
+    numbers: [u32; 131072],
+    table: [u16; 132072],
 }
 
 // ---- a code: runs of slots, each repeated, and up to 7 bytes more
@@ -140,14 +129,18 @@ fn case<F: Read>(out: &impl Print, list: &mut List<F>, room: &mut Room) -> io::R
     match (
         room.code.get(..n),
         room.numbers.get(..m),
-        room.table.as_mut_slice().get_mut(..k),
+        room.table.get_mut(..k),
     ) {
         (Some(code), Some(relocs), Some(table)) => judged(out, code, relocs, table),
         _ => Ok(()),
     }
 }
 
-pub(crate) fn replay(rt: &(impl Files + Print + AllocGlobal)) -> io::Result<()> {
-    let mut room = Room::new(rt.alloc())?;
+pub(crate) fn replay(rt: &(impl Files + Print)) -> io::Result<()> {
+    let mut room = Room {
+        code: [0; 1048584],
+        numbers: [0; 131072],
+        table: [0; 132072],
+    };
     input::open(rt, "codes")?.each_case(|list| case(rt, list, &mut room))
 }

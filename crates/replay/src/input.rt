@@ -1,20 +1,28 @@
 // A stored list: one case after the other, in bytes and little-endian numbers.
 use std::fs;
-use std::io::{self, BufRead, BufReader, Read};
+use std::io::{self, Read};
 use std::rt::Files;
 
 // What stands after so many cases is not read. A loop has to end, and no proof knows how much a file holds.
 const MOST_CASES: u32 = 100000;
 
+// The bytes from `start` to `end` were read and are not taken yet. A `BufReader` has its buffer from the heap, which no program needs.
 #[derive(Drop)]
 pub(crate) struct List<F> {
-    file: BufReader<F>,
+    file: F,
+    buffer: [u8; 4096],
+    start: usize,
+    end: usize,
 }
 
 // Opens the list of that name in the folder that the program runs in.
-pub(crate) fn open<R: Files + AllocGlobal>(rt: &R, name: &str) -> io::Result<List<R::File>> {
-    let file = BufReader::new(rt.alloc(), fs::open(rt, name)?)?;
-    Ok(List { file })
+pub(crate) fn open<R: Files>(rt: &R, name: &str) -> io::Result<List<R::File>> {
+    Ok(List {
+        file: fs::open(rt, name)?,
+        buffer: [0; 4096],
+        start: 0,
+        end: 0,
+    })
 }
 
 impl<F: Read> List<F> {
@@ -26,7 +34,7 @@ impl<F: Read> List<F> {
         requires { C.IsAlwaysCallable case }
     {
         for _ in 0..MOST_CASES {
-            if self.file.fill_buf()?.is_empty() {
+            if self.next()?.is_none() {
                 break;
             }
             case(self)?;
@@ -34,16 +42,31 @@ impl<F: Read> List<F> {
         Ok(())
     }
 
-    // Where the list ends early, the rest of the buffer stays as it is.
-    pub(crate) fn fill(&mut self, buffer: &mut [u8]) -> io::Result<()> {
-        for (to, from) in buffer.iter_mut().zip(self.file.by_ref().bytes()) {
-            *to = from?;
+    // The next byte, which is not taken; none at the list's end.
+    fn next(&mut self) -> io::Result<Option<u8>> {
+        if self.end <= self.start {
+            self.end = self.file.read(&mut self.buffer)?;
+            self.start = 0;
         }
-        Ok(())
+        let read = self.buffer.get(self.start..self.end);
+        Ok(read.and_then(|bytes| bytes.first().copied()))
     }
 
     pub(crate) fn byte(&mut self) -> io::Result<Option<u8>> {
-        self.file.by_ref().bytes().next().transpose()
+        let next = self.next()?;
+        self.start = self.start.saturating_add(1);
+        Ok(next)
+    }
+
+    // Where the list ends early, the rest of the buffer stays as it is.
+    pub(crate) fn fill(&mut self, buffer: &mut [u8]) -> io::Result<()> {
+        for to in buffer.iter_mut() {
+            let Some(b) = self.byte()? else {
+                break;
+            };
+            *to = b;
+        }
+        Ok(())
     }
 
     // The bytes that a number lacks at the list's end are 0.

@@ -2,7 +2,6 @@
 use crate::hash;
 use crate::input::{self, List};
 use crate::output::{self, Hex};
-use std::alloc::{AllocError, Global};
 use std::fmt;
 use std::io::{self, Read};
 use std::rt::Files;
@@ -10,19 +9,9 @@ use std::rt::Files;
 // Room for the longest unit, the longest code and the most relocation numbers of the list.
 #[derive(Drop)]
 struct Room {
-    unit: Vec<u8>,
-    code: Vec<u8>,
-    relocs: Vec<u32>,
-}
-
-impl Room {
-    fn new(alloc: Global) -> Result<Self, AllocError> {
-        Ok(Room {
-            unit: vec![in alloc; 0; 131072]?,
-            code: vec![in alloc; 0; 524288]?,
-            relocs: vec![in alloc; 0; 8192]?,
-        })
-    }
+    unit: [u8; 131072],
+    code: [u8; 524288],
+    relocs: [u32; 8192],
 }
 
 fn code_told(out: &impl Print, code: &[u8]) -> io::Result<()> {
@@ -66,20 +55,21 @@ fn case<F: Read>(out: &impl Print, list: &mut List<F>, room: &mut Room) -> io::R
     let len = list.number()? as usize;
     let n = list.number()? as usize;
     let m = list.number()? as usize;
-    let Some(unit) = room.unit.as_mut_slice().get_mut(..len) else {
+    let Some(unit) = room.unit.get_mut(..len) else {
         return Ok(());
     };
     list.fill(unit)?;
-    match (
-        room.code.as_mut_slice().get_mut(..n),
-        room.relocs.as_mut_slice().get_mut(..m),
-    ) {
+    match (room.code.get_mut(..n), room.relocs.get_mut(..m)) {
         (Some(code), Some(relocs)) => lowered(out, unit, code, relocs),
         _ => Ok(()),
     }
 }
 
-pub(crate) fn replay(rt: &(impl Files + Print + AllocGlobal)) -> io::Result<()> {
-    let mut room = Room::new(rt.alloc())?;
+pub(crate) fn replay(rt: &(impl Files + Print)) -> io::Result<()> {
+    let mut room = Room {
+        unit: [0; 131072],
+        code: [0; 524288],
+        relocs: [0; 8192],
+    };
     input::open(rt, "lowering")?.each_case(|list| case(rt, list, &mut room))
 }

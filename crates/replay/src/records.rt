@@ -151,6 +151,6 @@ fn case<F: Read>(out: &impl Print, list: &mut List<F>) -> io::Result<()> {
     }
 }
 
-pub(crate) fn replay(rt: &(impl Files + Print + AllocGlobal)) -> io::Result<()> {
+pub(crate) fn replay(rt: &(impl Files + Print)) -> io::Result<()> {
     input::open(rt, "records")?.each_case(|list| case(rt, list))
 }

@@ -51,7 +51,7 @@ fn case<F: Read>(out: &impl Print, list: &mut List<F>, buffer: &mut [u8]) -> io:
     Ok(())
 }
 
-pub(crate) fn replay(rt: &(impl Files + Print + AllocGlobal)) -> io::Result<()> {
-    let mut buffer = vec![in rt.alloc(); 0u8; 524288]?;
+pub(crate) fn replay(rt: &(impl Files + Print)) -> io::Result<()> {
+    let mut buffer = [0u8; 524288];
     input::open(rt, "units")?.each_case(|list| case(rt, list, &mut buffer))
 }

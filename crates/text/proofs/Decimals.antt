@@ -56,6 +56,21 @@ one_count n h = ap length (one_digit n h)
 
 pub ruleset counts = (count, one_count)
 
+-- ---- of any number
+
+digits_most : (k n : ℕ) → length (digits_of k n) ≤ k
+unfolding digits_of
+digits_most zero n = omega arith
+digits_most (suc k) n = go (ltb n 10) (digits_of k (n / 10)) (digits_most k (n / 10))
+  where
+    go : (t : Bool) (l : List ℕ) → length l ≤ k → length (pick t (digit n ∷ []) (l ++ (digit (n % 10) ∷ []))) ≤ suc k
+    go true l h = omega arith
+    go false l h = simp length-append (omega arith)
+
+pub at_most_20 : (n : ℕ) → length (decimal n) ≤ 20
+unfolding decimal
+at_most_20 n = digits_most 20 n
+
 -- ---- digits taken from the last on
 
 -- x has the first i digits of ds: its last is digit i - 1, and its tenth has those before

@@ -8,11 +8,11 @@ ghost use Rattle.tracepoint.specs.Compile.{lowering_of};
 ghost use Rattle.passes.specs.Stages.{Surveyed, Ready};
 ghost use Rattle.tracepoint.specs.Lent.{context_in, blocks_in};
 ghost use Rattle.tracepoint.specs.Answers.{lowering_by, lowered_by, Answers};
-ghost use Rattle.tracepoint.specs.Tables.{Holds};
+ghost use Rattle.tracepoint.specs.Tables.{Spans};
 
 use crate::context::{self, Context};
 use crate::links::Links;
-use crate::tables::Tables;
+use crate::tables::Lists;
 use crate::{Fault, measure, write};
 use frame::{Frame, hint};
 use unitfile::Found;
@@ -69,18 +69,25 @@ fn compile_linked(
 }
 
 // The branch conditions of all blocks, and the blocks that are emitted.
-pub(crate) fn compile_surveyed<const BLOCKS: usize, const TARGETS: usize, const EDGES: usize>(
+pub(crate) fn compile_surveyed(
     unit: &[u8],
     found: Found,
     variables: &[u32],
-    tables: &mut Tables<BLOCKS, TARGETS, EDGES>,
+    lists: &mut Lists<'_>,
     code: &mut [u8],
     relocs: &mut [u32],
 ) -> Result<(u32, u32), Fault>
-    requires surveyed { Surveyed unit.now found variables.now tables.old.ids tables.old.endings }
-    requires spacious { Holds (length (blocks_of (parse unit.now))) BLOCKS TARGETS EDGES }
+    requires surveyed { Surveyed unit.now found variables.now lists.old.ids.now lists.old.endings.now }
+    requires spacious { Spans (length (blocks_of (parse unit.now))) lists.old }
     ensures { Answers (lowering_of (parse unit.now)) code.old relocs.old result code.new relocs.new }
 {
+    let ids = &mut *lists.ids;
+    let endings = &mut *lists.endings;
+    let counts = &mut *lists.counts;
+    let named = &mut *lists.named;
+    let numbers = &mut *lists.numbers;
+    let emitted = &mut *lists.emitted;
+    let edges = &mut *lists.edges;
     let mut hints = [0u8; 256];
     hint::put_hints(variables, &mut hints);
     let frame = Frame {
@@ -89,23 +96,10 @@ pub(crate) fn compile_surveyed<const BLOCKS: usize, const TARGETS: usize, const 
     };
     let mut marks = [0u8; 56];
     context::note_blocks(
-        unit,
-        found,
-        frame,
-        &tables.endings,
-        &mut marks,
-        &mut tables.counts,
-        &mut tables.named,
-        &mut tables.numbers,
+        unit, found, frame, endings, &mut marks, counts, named, numbers,
     );
     let n = found.blocks as usize;
-    flow::link(
-        n,
-        &tables.ids,
-        &tables.counts,
-        &mut tables.numbers,
-        &mut tables.emitted,
-    );
+    flow::link(n, ids, counts, numbers, emitted);
     let context = Context {
         frame,
         marks: &marks,
@@ -113,11 +107,11 @@ pub(crate) fn compile_surveyed<const BLOCKS: usize, const TARGETS: usize, const 
     let links = Links {
         unit,
         found,
-        emitted: &tables.emitted,
-        numbers: &tables.numbers,
-        endings: &tables.endings,
-        counts: &tables.counts,
-        named: &tables.named,
+        emitted,
+        numbers,
+        endings,
+        counts,
+        named,
     };
-    compile_linked(context, links, &mut tables.edges, code, relocs)
+    compile_linked(context, links, edges, code, relocs)
 }

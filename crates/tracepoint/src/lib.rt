@@ -14,11 +14,11 @@ ghost use Rattle.survey.specs.Surveyed.{blocks_of};
 ghost use Rattle.tracepoint.specs.Compile.{told, refusal_of, reason_refusal, lowering_of, compile_answer, compile_code, compile_relocs};
 ghost use Rattle.tracepoint.specs.Answers.{Answers};
 ghost use Rattle.tracepoint.specs.Faults.{of_survey, of_measure, of_jumps};
-ghost use Rattle.tracepoint.specs.Tables.{Holds};
+ghost use Rattle.tracepoint.specs.Tables.{Holds, Spans};
 
 use jumps::Astray;
 use lower::Reason;
-use tables::Tables;
+use tables::Lists;
 use wire::refusal::Refusal;
 
 // Why a unit is not compiled.
@@ -113,7 +113,22 @@ pub fn refusal(f: Fault) -> Refusal
 
 // ---- a unit's bytes to code and relocations
 
-// Over tables that hold the unit's blocks.
+// Over lent lists that hold the unit's blocks.
+fn compile_in(
+    unit: &[u8],
+    lists: &mut Lists<'_>,
+    code: &mut [u8],
+    relocs: &mut [u32],
+) -> Result<(u32, u32), Fault>
+    requires { Spans (length (blocks_of (parse unit.now))) lists.old }
+    ensures { Answers (lowering_of (parse unit.now)) code.old relocs.old result code.new relocs.new }
+{
+    let mut variables = [0u32; 56];
+    let (found, n) = survey::survey_unit(unit, &mut variables, lists.ids, lists.endings)?;
+    compile::compile_surveyed(unit, found, &variables[0..n], lists, code, relocs)
+}
+
+// Over tables that hold the unit's blocks: for so many blocks, their targets, two a block, and their edges, one more than blocks.
 fn compile_with<const BLOCKS: usize, const TARGETS: usize, const EDGES: usize>(
     unit: &[u8],
     code: &mut [u8],
@@ -122,23 +137,23 @@ fn compile_with<const BLOCKS: usize, const TARGETS: usize, const EDGES: usize>(
     requires { Holds (length (blocks_of (parse unit.now))) BLOCKS TARGETS EDGES }
     ensures { Answers (lowering_of (parse unit.now)) code.old relocs.old result code.new relocs.new }
 {
-    let mut variables = [0u32; 56];
-    let mut tables = Tables {
-        ids: [0u32; BLOCKS],
-        endings: [0u32; BLOCKS],
-        counts: [0u8; BLOCKS],
-        named: [0u32; TARGETS],
-        numbers: [0u32; TARGETS],
-        emitted: [0u8; BLOCKS],
-        edges: [0u32; EDGES],
+    let mut ids = [0u32; BLOCKS];
+    let mut endings = [0u32; BLOCKS];
+    let mut counts = [0u8; BLOCKS];
+    let mut named = [0u32; TARGETS];
+    let mut numbers = [0u32; TARGETS];
+    let mut emitted = [0u8; BLOCKS];
+    let mut edges = [0u32; EDGES];
+    let mut lists = Lists {
+        ids: &mut ids,
+        endings: &mut endings,
+        counts: &mut counts,
+        named: &mut named,
+        numbers: &mut numbers,
+        emitted: &mut emitted,
+        edges: &mut edges,
     };
-    let (found, n) = survey::survey_unit(
-        unit,
-        &mut variables,
-        &mut tables.ids,
-        &mut tables.endings,
-    )?;
-    compile::compile_surveyed(unit, found, &variables[0..n], &mut tables, code, relocs)
+    compile_in(unit, &mut lists, code, relocs)
 }
 
 // The code fills the front of its buffer, the relocations' pairs of byte offset and map number that of theirs; a refused call changes neither.

@@ -46,9 +46,14 @@ fn size_of_instructions(
     while at < end {
         let payload = &unit[at + 4..];
         let condition = context.condition_of(payload);
-        let (s, r) = size_of(at, size::size_instruction(condition, payload))?;
-        slots += s;
-        relocs += r;
+        // no `?`: it moves the pair as one word, which waits for both its halves
+        match size_of(at, size::size_instruction(condition, payload)) {
+            Ok((s, r)) => {
+                slots += s;
+                relocs += r;
+            }
+            Err(refused) => return Err(refused),
+        }
         at = at + 4 + wire::get_u16(unit, at) as usize;
     }
     Ok((slots, relocs))

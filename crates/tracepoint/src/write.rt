@@ -96,8 +96,9 @@ fn put_instruction(
     ensures scratch_value { result.scratch ≡ ring_by (context_in context.entry) passed.scratch payload.now }
 {
     let condition = context.condition_of(payload);
-    let j = passed.scratch;
-    let slot = passed.front.slot;
+    // by its parts, since a struct that goes on whole takes its padding along, through memory, at each record
+    let Passed { front, scratch: j } = passed;
+    let slot = front.slot;
     let Ok(e) = lower::lower_instruction(
         code,
         byte_offset(slot).0 as usize,
@@ -107,10 +108,10 @@ fn put_instruction(
         payload,
     ) else {
         // a refused one puts nothing
-        return passed;
+        return Passed { front, scratch: j };
     };
     Passed {
-        front: put_relocation(relocs, passed.front, e.map, e.slots),
+        front: put_relocation(relocs, front, e.map, e.slots),
         scratch: ring_after(e.map, j, payload),
     }
 }

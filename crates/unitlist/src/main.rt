@@ -1,6 +1,8 @@
 // Lists what a unit becomes: the counts, each slot with its 8 bytes, each relocation with its map's name; or the refusal.
 #![tactic(auto)]
 
+ghost use Rattle.std.specs.Prelude.{◌≤◌, length, IfOk};
+
 use std::io::{self, Read};
 use wire::number::{ByteOffset, SlotNumber};
 use wire::refusal::Refusal;
@@ -59,11 +61,29 @@ fn list(out: &impl Print, unit: &[u8]) -> io::Result<()> {
     }
 }
 
+// Reads until the buffer is full or the input ends, and answers how many bytes it put at the front. The whole rest of the buffer is lent to
+// each read, since an input may hand out a message at a time and cut what has no room; and the library's `read_to_end` needs the heap.
+fn read_full(input: &mut impl Read, buffer: &mut [u8]) -> io::Result<usize>
+    ensures { IfOk result (λ n. n ≤ length buffer.new) }
+{
+    let mut done = 0;
+    // no `for`: a step is as long as what was read
+    while done < buffer.len() {
+        let n = input.read(&mut buffer[done..])?;
+        if n == 0 {
+            break;
+        }
+        done += n;
+    }
+    Ok(done)
+}
+
 fn main(rt: HostRuntime) -> io::Result<()> {
-    let mut unit = Vec::new(rt.alloc());
-    rt.reader().take(MOST as u64 + 1).read_to_end(&mut unit)?;
-    if unit.len() <= MOST {
-        list(&rt, &unit)
+    // one byte more than the longest, which tells a unit that is longer
+    let mut input = [0u8; MOST + 1];
+    let len = read_full(&mut rt.reader(), &mut input)?;
+    if len <= MOST {
+        list(&rt, &input[..len])
     } else {
         refused(&rt, TOO_LONG)
     }

@@ -1,13 +1,10 @@
--- `form_of` lists each byte that has a form.
-use mathlib.Core.Path.{◌≡◌, sym}
-use mathlib.Core.Bool.{false}
-use native.Mathlib.Omega.{arith}
-use lib.Dec.{eqb}
-use Rattle.std.specs.List.{list_any}
-use Rattle.std.proofs.lemmas.Bool.Decides.{nat_tests}
-use Rattle.insn.proofs.Forms.{codes, no_form}
+-- `form_of` reads the table, whose forms are those that RFC 9669's fields give: antt computes and compares them.
+use borrow.Author.Rules.{rules}
+use Rattle.insn.specs.Rfc.{size_field}
+use Rattle.insn.specs.Form.{form_of, sizes, with_constant, with_register, jumps}
+use Rattle.insn.proofs.Forms.{forms, form_at}
 use Rattle.insn.proofs.form.form_of.Goals as goal
 
-pub returns-in_default : goal.returns-in_default
-unfolding codes
-returns-in_default c = let e : list_any (eqb c.args.code) codes ≡ false = grind (arith, nat_tests) in sym (no_form c.args.code (omega (arith, c.ranges.code)) e)
+pub returns : goal.returns
+unfolding forms form_of size_field sizes with_constant with_register jumps
+returns c = form_at c.args.code (search rules)
