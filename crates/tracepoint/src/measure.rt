@@ -15,6 +15,8 @@ use crate::links::Links;
 use ir::Operand;
 use lower::{Emitted, Reason};
 
+// No `?` where a pair is handed on: it moves the pair as one word, which waits for both its halves.
+
 // ---- instructions
 
 #[tactic(auto, unfolding(passes::specs::Tables::size_by, passes::specs::Tables::relocs_by))]
@@ -46,7 +48,6 @@ fn size_of_instructions(
     while at < end {
         let payload = &unit[at + 4..];
         let condition = context.condition_of(payload);
-        // no `?`: it moves the pair as one word, which waits for both its halves
         match size_of(at, size::size_instruction(condition, payload)) {
             Ok((s, r)) => {
                 slots += s;
@@ -112,9 +113,13 @@ fn size_of_block(
     ensures { BlockTakes (context_in context.entry) unit.now emits first end result }
 {
     if emits {
-        let (slots, relocs) = size_of_instructions(unit, context, first, end)?;
-        let (s, r) = size_of_ending(end, &unit[end + 4..])?;
-        return Ok((slots + s, relocs + r));
+        return match size_of_instructions(unit, context, first, end) {
+            Ok((slots, relocs)) => match size_of_ending(end, &unit[end + 4..]) {
+                Ok((s, r)) => Ok((slots + s, relocs + r)),
+                Err(refused) => Err(refused),
+            },
+            Err(refused) => Err(refused),
+        };
     }
     Ok((0, 0))
 }
@@ -136,9 +141,13 @@ pub(crate) fn measure(
     edges[0] = 1;
     for k in 0..n {
         let end = links.endings[k] as usize;
-        let (s, r) = size_of_block(links.unit, context, links.emitted[k] == 1, at + 8, end)?;
-        slots += s;
-        relocs += r;
+        match size_of_block(links.unit, context, links.emitted[k] == 1, at + 8, end) {
+            Ok((s, r)) => {
+                slots += s;
+                relocs += r;
+            }
+            Err(refused) => return Err(refused),
+        }
         edges[k + 1] = slots;
         at = end + 4 + wire::get_u16(links.unit, end) as usize;
     }

@@ -1,6 +1,5 @@
 use mathlib.Core.Path.{refl}
 use native.Mathlib.Omega.{arith}
-use Rattle.std.proofs.lemmas.Result.{err_from_is_err_and}
 use Rattle.record.specs.Frame.{next_at}
 use Rattle.unitfile.proofs.Units.{unit_of}
 use Rattle.survey.proofs.Bounds.{blocks_count}
@@ -28,7 +27,7 @@ unfolding marked
 overflow_add-slots c =
     let l = c.loop-k in
     let h = c.loop-k-test.true in
-    let o = fits l.invariant h c.size_of_block.ensures c.in_ok-s.was in
+    let o = fits l.invariant h c.size_of_block.ensures c.in-Ok.is in
     omega (arith, o.0, o.1, (inside l.invariant h).1, (unit_of _ _ c.args.links.read).short)
 
 pub overflow_add-relocs : goal.overflow_add-relocs
@@ -36,19 +35,17 @@ unfolding marked
 overflow_add-relocs c =
     let l = c.loop-k in
     let h = c.loop-k-test.true in
-    let o = fits l.invariant h c.size_of_block.ensures c.in_ok-s.was in
+    let o = fits l.invariant h c.size_of_block.ensures c.in-Ok.is in
     omega (arith, o.0, o.1, (inside l.invariant h).1, (unit_of _ _ c.args.links.read).short)
 
-pub returns-in_err-s : goal.returns-in_err-s
+pub returns-in-Err : goal.returns-in-Err
 unfolding marked
-returns-in_err-s c =
-    let p = err_from_is_err_and c.from_residual.result c.from_residual.ensures.1 in
-    rw (p.1, p.2) (on_refusal c.loop-k.invariant c.loop-k-test.true c.size_of_block.ensures c.in_err-s.was)
+returns-in-Err c = on_refusal c.loop-k.invariant c.loop-k-test.true c.size_of_block.ensures c.in-Err.is
 
 pub loop-k-preserved : goal.loop-k-preserved
 unfolding next_at marked
 loop-k-preserved c =
-    rw c.get_u16.ensures (on_block c.loop-k.invariant c.loop-k-test.true c.size_of_block.ensures c.in_ok-s.was)
+    rw c.get_u16.ensures (on_block c.loop-k.invariant c.loop-k-test.true c.size_of_block.ensures c.in-Ok.is)
 
 pub returns : goal.returns
 returns c = at_end c.loop-k.invariant _ refl (omega arith) (unit_of _ _ c.args.links.read).short
