@@ -62,7 +62,7 @@ fn put(code: &mut [u8], at: usize, slot: SlotNumber, p: Piece) -> SlotNumber
 
 // ---- lists
 
-pub fn words<const N: usize>(code: &mut [u8], at: usize, given: [u64; N]) -> Emitted
+pub(crate) fn words<const N: usize>(code: &mut [u8], at: usize, given: [u64; N]) -> Emitted
     requires { N ≤ 5 }
     ensures { Puts code.old at (words given.entry) code.new (Ok result) }
 {
@@ -76,7 +76,7 @@ pub fn words<const N: usize>(code: &mut [u8], at: usize, given: [u64; N]) -> Emi
 }
 
 // Pieces, after the load of a map's address where there is one.
-pub fn pieces<const N: usize>(
+pub(crate) fn pieces<const N: usize>(
     code: &mut [u8],
     at: usize,
     map: Option<u32>,

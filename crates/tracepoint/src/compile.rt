@@ -81,6 +81,7 @@ pub(crate) fn compile_surveyed(
     requires spacious { Spans (length (blocks_of (parse unit.now))) lists.old }
     ensures { Answers (lowering_of (parse unit.now)) code.old relocs.old result code.new relocs.new }
 {
+    // each list by itself, since the passes read some while they write others
     let ids = &mut *lists.ids;
     let endings = &mut *lists.endings;
     let counts = &mut *lists.counts;
